@@ -4,3 +4,7 @@ pub mod Orders
 pub mod Counting
 pub mod TurnLaws
 pub mod TurnUnique
+pub mod Lines
+pub mod Ranges
+pub mod CheckLaws
+pub mod InputLaws
