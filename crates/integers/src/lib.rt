@@ -1,1 +1,0 @@
-// Powers of two.
