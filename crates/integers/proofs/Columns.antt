@@ -1,10 +1,9 @@
 -- The product of two numbers by columns of P: each column takes the half that the one before carries, and what is left of the columns are the
 -- digits of the product. Assumes nothing.
 use mathlib.Core.Path.{_≡_, sym, ap, ap₂, _∙_}
-use Prim.Native.Nat.{ℕ, _+_, _-_, _*_, _/_, _%_, _^_, _≤_, _<_}
-use native.Mathlib.Nat.{mul-le-mul, mul-le-mul-left, mul-comm, div-le-of-le-mul, div-lt-iff-lt-mul, le-trans}
+use Prim.Native.Nat.{ℕ, _+_, _*_, _/_, _%_, _^_, _≤_, _<_}
+use native.Mathlib.Nat.{mul-le-mul}
 use native.Mathlib.Omega.{arith}
-use lib.Dec.{lit<}
 use lib.Arith.{digits-div, digits-mod}
 
 -- two digits and a carry

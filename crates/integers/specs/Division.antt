@@ -1,9 +1,9 @@
 -- Quotients and remainders by a divisor that is a variable, where the kit's libraries stop: bounds of a quotient, long division one digit at a
 -- time, sums of two remainders, and turns of a ring. Each follows from x ≡ x / n * n + x % n with x % n < n. Assumes nothing.
-use mathlib.Core.Path.{_≡_, refl, sym, ap, ap₂, _∙_, subst}
+use mathlib.Core.Path.{_≡_, sym, ap, ap₂, _∙_, subst}
 use mathlib.Core.Logic.{_⊎_, inl, inr}
 use Prim.Native.Nat.{ℕ, zero, suc, _+_, _-_, _*_, _/_, _%_, _^_, _≤_, _<_, min}
-use native.Mathlib.Nat.{add-mul, add-comm, mul-assoc, mul-comm, add-zero, zero-mul, sub-self, sub-add-cancel, min-eq-left, min-eq-right, mul-lt-mul-of-pos-right, mul-le-mul-right, mul-le-mul-left, div-add-mod', mod-lt, mod-one, mod-eq-of-lt, mod-eq-sub-mod, div-eq-of-lt-le, div-lt-iff-lt-mul, div-le-of-le-mul, le-div-iff-mul-le, lt-of-mul-lt-mul-right, mul-div-cancel, add-mul-div-right, add-mul-mod-self-right, add-mod-right}
+use native.Mathlib.Nat.{add-mul, add-comm, mul-assoc, add-zero, zero-mul, sub-self, sub-add-cancel, min-eq-left, min-eq-right, mul-lt-mul-of-pos-right, div-add-mod', mod-lt, mod-one, mod-eq-of-lt, mod-eq-sub-mod, div-eq-of-lt-le, div-lt-iff-lt-mul, div-le-of-le-mul, le-div-iff-mul-le, lt-of-mul-lt-mul-right, mul-div-cancel, add-mul-div-right, add-mul-mod-self-right}
 use native.Mathlib.Decide.{decLe}
 use native.Mathlib.Omega.{arith}
 use lib.Arith.{mod-mul}

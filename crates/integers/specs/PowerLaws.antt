@@ -1,9 +1,9 @@
 -- Laws of `logUp` and `leastPower`. They hold because the search of `leastFrom` goes up one exponent at a time: it stops at the first
 -- that is enough, so half of its power is too little. Assumes nothing.
 use mathlib.Core.Path.{_≡_, refl, sym, ap, _∙_, subst}
-use mathlib.Core.Bool.{Bool, true, false, cond}
+use mathlib.Core.Bool.{Bool, true, false}
 use Prim.Native.Nat.{ℕ, zero, suc, _+_, _-_, _*_, _^_, _≤_, _<_, min}
-use native.Mathlib.Nat.{le-refl, le-trans, le-antisymm, lt-of-not-le, not-le-of-lt, le-of-suc-le-suc, add-zero, zero-add, min-eq-left, min-eq-right}
+use native.Mathlib.Nat.{le-refl, le-trans, le-antisymm, lt-of-not-le, le-of-suc-le-suc, add-zero, zero-add, min-eq-left, min-eq-right}
 use native.Mathlib.Decide.{decLe}
 use native.Mathlib.Omega.{arith}
 use lib.Dec.{leb}

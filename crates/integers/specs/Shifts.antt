@@ -1,11 +1,11 @@
 -- What the code's shifts and masks are in numbers: a left shift is a product, a right shift a quotient, a mask a remainder. In the logic
 -- `a << k` at 64 bits is a * 2 ^ k % 2 ^ 64 and `a >> k` is a / 2 ^ k. Assumes nothing.
 use mathlib.Core.Path.{_≡_, sym, _∙_, subst}
-use Prim.Native.Nat.{ℕ, _+_, _-_, _*_, _/_, _%_, _^_, _≤_, _<_}
+use Prim.Native.Nat.{ℕ, _+_, _-_, _*_, _%_, _^_, _≤_, _<_}
 use native.Mathlib.Nat.{one-mul, mod-eq-of-lt, le-of-lt, lt-of-le-of-lt, lt-of-not-le, not-le-of-lt, mul-le-mul-left}
 use native.Mathlib.Omega.{arith}
 use lib.Bits.{bitAnd, and-mask, and-le-r}
-use lib.Pow.{pow-mono, pow-lt, pow-pos, pow-add, shl-lt}
+use lib.Pow.{pow-mono, pow-lt, pow-add, shl-lt}
 
 -- `1 << k`
 pub one-shl : (k : ℕ) → k < 64 → (1 * 2 ^ k) % 2 ^ 64 ≡ 2 ^ k

@@ -3,9 +3,9 @@ ghost use mathlib.Core.Path.{_≡_};
 ghost use Prim.Native.Nat.{_+_, _-_, _*_, _/_, _%_, _^_, _≤_, _<_};
 
 // The two words of a product: high * 2^64 + low.
-pub struct Wide {
-    pub high: u64,
-    pub low: u64,
+struct Wide {
+    high: u64,
+    low: u64,
 }
 
 fn low_half(x: u64) -> u64
@@ -28,9 +28,9 @@ fn column(x: u64, y: u64, carry: u64) -> u64
     x * y + carry
 }
 
-// The whole of a * b. Each column takes one carry, so that no sum leaves a word, and the compiler
-// makes one multiplication of the four.
-pub fn product(a: u64, b: u64) -> Wide
+// The whole of a * b. Each column takes one carry, so no sum leaves a word. Called by way of
+// `mul_hi` and `mul_lo`, of which the compiler makes one multiplication, also of the two together.
+fn product(a: u64, b: u64) -> Wide
     ensures { λ r. ⌜ (r .high ≡ a * b / 2 ^ 64) × (r .low ≡ a * b % 2 ^ 64) ⌝ }
 {
     let a0 = low_half(a);

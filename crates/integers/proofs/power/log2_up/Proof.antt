@@ -1,29 +1,23 @@
+-- `log2_up` meets its contract: 64 less the leading zeros of x - 1 is the length of x - 1 in bits, which is the least k with x ≤ 2 ^ k. Assumes nothing.
+use mathlib.Core.Path.{_≡_, subst, sym}
+use Prim.Native.Nat.{ℕ, _-_}
+use native.Mathlib.Omega.{arith}
+use lib.Count.{leadingZeros, leading-le}
+use borrow.Author.Needs.{needs}
 use Rattle.integers.specs.PowerLaws.{logUp-is, log-of-zeros}
 use Rattle.integers.specs.Power.{logUp}
-use lib.Count.{leadingZeros, leading-le}
-use native.Mathlib.Omega.{arith}
-use Prim.Native.Nat.{ℕ, _-_}
-use mathlib.Core.Path.{_≡_, subst, sym}
-use borrow.Author.Needs.{needs}
 use Rattle.integers.proofs.power.log2_up.Statement.{statement}
 use Rattle.integers.proofs.power.log2_up.Tie as tie
-use Rattle.integers.proofs.power.log2_up.Reads as reads
-use Rattle.integers.proofs.power.log2_up.Lts as lts
-use Rattle.integers.proofs.choice.less.Reads as less-reads
 
--- src/power.rt:11:30
 less-requires : tie.Need-less-requires
 less-requires c κs = search needs
 
--- src/power.rt:11:6
 sub-result : tie.Need-sub-result
 sub-result c = leading-le 64 (c .less .result)
 
--- src/power.rt:11:5
 cast-result : tie.Need-cast-result
 cast-result c = search needs
 
--- src/power.rt:8:1
 returns : tie.Need-returns
 returns c =
     let x : ℕ = c .before .args .x in

@@ -1,15 +1,13 @@
+-- `next_power_of_two` meets its contract: the exponent is at most 63, so the shift loses no bit. Assumes nothing.
+use mathlib.Core.Path.{_≡_, ap, _∙_}
+use Prim.Native.Nat.{ℕ, _^_, _*_, _%_, _<_}
+use native.Mathlib.Omega.{arith}
+use borrow.Author.Needs.{needs}
 use Rattle.integers.specs.Shifts.{one-shl}
 use Rattle.integers.specs.PowerLaws.{logUp-least, leastPower-above, leastPower-pos, leastPower-tight}
 use Rattle.integers.specs.Power.{leastPower}
-use native.Mathlib.Omega.{arith}
-use Prim.Native.Nat.{ℕ, _^_, _*_, _%_, _<_}
-use mathlib.Core.Path.{_≡_, ap, _∙_}
-use borrow.Author.Needs.{needs}
 use Rattle.integers.proofs.power.next_power_of_two.Statement.{statement}
 use Rattle.integers.proofs.power.next_power_of_two.Tie as tie
-use Rattle.integers.proofs.power.next_power_of_two.Reads as reads
-use Rattle.integers.proofs.power.next_power_of_two.Lts as lts
-use Rattle.integers.proofs.power.log2_up.Reads as log2-up-reads
 
 -- the shift is below 64
 short : (c : tie.After-log2-up) → c .log2-up .result < 64
@@ -19,15 +17,12 @@ shifted : (c : tie.After-log2-up) → (1 * 2 ^ c .log2-up .result) % 2 ^ 64 ≡ 
 unfolding leastPower
 shifted c = one-shl (c .log2-up .result) (short c) ∙ ap (λ (k : ℕ). 2 ^ k) (c .log2-up .ensures .0)
 
--- src/power.rt:19:13
 log2-up-requires : tie.Need-log2-up-requires
 log2-up-requires c κs = search needs
 
--- src/power.rt:19:5
 shl-result : tie.Need-shl-result
 shl-result c = short c
 
--- src/power.rt:15:1
 returns : tie.Need-returns
 returns c =
     let x : ℕ = c .before .args .x in

@@ -1,18 +1,15 @@
-use Rattle.integers.specs.Shifts.{one-shl}
-use lib.Pow.{pow-mono, pow-pos}
-use native.Mathlib.Omega.{arith}
+-- `power_of_two` meets its contract: the exponent is at most 16, so the shift loses no bit. Assumes nothing.
 use Prim.Native.Nat.{_^_, _≤_}
+use native.Mathlib.Omega.{arith}
+use lib.Pow.{pow-mono, pow-pos}
 use borrow.Author.Needs.{needs}
+use Rattle.integers.specs.Shifts.{one-shl}
 use Rattle.integers.proofs.power.power_of_two.Statement.{statement}
 use Rattle.integers.proofs.power.power_of_two.Tie as tie
-use Rattle.integers.proofs.power.power_of_two.Reads as reads
-use Rattle.integers.proofs.power.power_of_two.Lts as lts
 
--- src/power.rt:27:5
 shl-result : tie.Need-shl-result
 shl-result c = search needs
 
--- src/power.rt:23:1
 returns : tie.Need-returns
 returns c =
     let e = one-shl (c .args .k) (omega arith) in

@@ -1,20 +1,16 @@
-use Rattle.integers.specs.Division.{part-le}
+-- `mul_hi` meets its contract: the high word is that of `product`, and a / 2 ^ 64 is below 1, so the word is below b, and below a. Assumes nothing.
+use mathlib.Core.Path.{subst}
+use Prim.Native.Nat.{ℕ, _*_, _/_, _^_, _≤_, _-_}
 use native.Mathlib.Omega.{arith}
 use native.Mathlib.Nat.{mul-comm}
-use Prim.Native.Nat.{ℕ, _*_, _/_, _^_, _≤_, _-_}
-use mathlib.Core.Path.{_≡_, subst, sym}
 use borrow.Author.Needs.{needs}
+use Rattle.integers.specs.Division.{part-le}
 use Rattle.integers.proofs.product.mul_hi.Statement.{statement}
 use Rattle.integers.proofs.product.mul_hi.Tie as tie
-use Rattle.integers.proofs.product.mul_hi.Reads as reads
-use Rattle.integers.proofs.product.mul_hi.Lts as lts
-use Rattle.integers.proofs.product.product.Reads as product-reads
 
--- src/product.rt:45:5
 product-requires : tie.Need-product-requires
 product-requires c κs = search needs
 
--- src/product.rt:42:1
 returns : tie.Need-returns
 returns c =
     let a : ℕ = c .before .args .a in
