@@ -8,3 +8,5 @@ pub mod Lines
 pub mod Ranges
 pub mod CheckLaws
 pub mod InputLaws
+pub mod GeometryLaws
+pub mod RingLaws

@@ -9,3 +9,4 @@ pub mod Holes
 pub mod Numbers
 pub mod Answers
 pub mod Good
+pub mod Ring
