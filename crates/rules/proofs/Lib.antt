@@ -10,3 +10,7 @@ pub mod CheckLaws
 pub mod InputLaws
 pub mod GeometryLaws
 pub mod RingLaws
+pub mod CandidateLaws
+pub mod SeedLaws
+pub mod SetLaws
+pub mod SegmentLaws
