@@ -14,3 +14,6 @@ pub mod CandidateLaws
 pub mod SeedLaws
 pub mod SetLaws
 pub mod SegmentLaws
+pub mod Sums
+pub mod GroupLaws
+pub mod SweepLaws
