@@ -1,2 +1,0 @@
-pub mod Bit
-pub mod Map
