@@ -45,6 +45,9 @@ bit-high (suc k) w (suc i) hw hi = bit-suc w i ∙ bit-high k (w / 2) i (omega a
 pub bit-le : (w i : ℕ) → bit w i ≡ 1 → 2 ^ i ≤ w
 bit-le w i h = ⊎-elim (λ l. absurd (omega (arith, bit-high i w i l (omega arith)))) (λ g. g) (lt-or-ge w (2 ^ i))
 
+pub bit-nonzero : (w i : ℕ) → bit w i ≡ 1 → w ≢ 0
+bit-nonzero w i h e = omega (arith, h, ap (λ (x : ℕ). bit x i) e, bit-of-zero i)
+
 -- `w >> i & 1 != 0`
 pub bit-test : (w i : ℕ) → not (eqb (bitAnd (w / 2 ^ i) 1) 0) ≡ eqb (bit w i) 1
 unfolding bit

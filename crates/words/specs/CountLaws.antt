@@ -47,6 +47,9 @@ tz-lt (suc k) w hw h =
     (λ o. omega (arith, tz-odd k w o))
     (parity w)
 
+pub tz-set : (k w : ℕ) → w < 2 ^ k → w ≢ 0 → bit w (trailingZeros k w) ≡ 1
+tz-set k w f h = tz-bit k w (tz-lt k w f h)
+
 -- no set bit is lower
 pub tz-le : (k w j : ℕ) → bit w j ≡ 1 → trailingZeros k w ≤ j
 tz-le k w j o = ⊎-elim (λ l. absurd (omega (arith, tz-below k w j l))) (λ g. g) (lt-or-ge j (trailingZeros k w))
@@ -104,7 +107,7 @@ clear-flip k w f h =
     bit-same (bitAnd w (w - 1)) (bitXor w (2 ^ trailingZeros k w))
     (λ i.
     ⊎-elim
-    (λ e. rw e (clear-same k w f h ∙ omega (arith, tz-bit k w (tz-lt k w f h)) ∙ sym (flip-same w (trailingZeros k w))))
+    (λ e. rw e (clear-same k w f h ∙ omega (arith, tz-set k w f h) ∙ sym (flip-same w (trailingZeros k w))))
     (λ n. clear-other k w i f h n ∙ sym (flip-other w (trailingZeros k w) i n))
     (same-or-not i (trailingZeros k w)))
 
@@ -134,6 +137,15 @@ ones-zero (suc k) w hw h = omega (arith, ones-step w, ones-zero k (w / 2) (omega
 
 pub ones-pos : (k w : ℕ) → w < 2 ^ k → w ≢ 0 → 1 ≤ ones w
 ones-pos k w f h = omega (arith, ones-clear k w f h)
+
+-- the complement has the others
+pub ones-not : (k w : ℕ) → w < 2 ^ k → ones ((2 ^ k - 1) - w) + ones w ≡ k
+ones-not zero w h =
+    let e : w ≡ 0 = omega arith in
+    rw e (omega (arith, ones-le 0 0 (pow-pos 0)))
+ones-not (suc k) w h =
+    let half : ((2 ^ suc k - 1) - w) / 2 ≡ (2 ^ k - 1) - w / 2 = omega (arith, pow-pos k) in
+    omega (arith, ones-step ((2 ^ suc k - 1) - w), ones-step w, ap ones half, ones-not k (w / 2) (omega arith), pow-pos k)
 
 -- one bit set or flipped: one more, one less
 pub ones-put : (w k : ℕ) → bit w k ≡ 0 → ones (bitOr w (2 ^ k)) ≡ suc (ones w)

@@ -1,7 +1,7 @@
 -- What a mark and a clearing do to a list of words: to the slot itself, to every other slot, to the length, the words' width and the parts of the list; lists with the same slots are the same.
 -- Why: they store one word, in which one bit changes (`put`, `wipe`, `flip` of BitLaws). Told first by word and bit, for any layout of slots, then by slot.
 -- Assumes nothing.
-use mathlib.Core.Path.{_≡_, refl, sym, ap₂, _∙_}
+use mathlib.Core.Path.{_≡_, refl, sym, ap, ap₂, _∙_}
 use mathlib.Core.Logic.{_≢_, _⊎_, ⊎-elim}
 use mathlib.Core.List.{List}
 use mathlib.Core.Bool.{not}
@@ -10,7 +10,7 @@ use native.Mathlib.Omega.{arith}
 use lib.Dec.{eqb}
 use lib.Bits.{bitAnd, bitOr, bitXor}
 use lib.ListN.{length, getD, set, take, drop, replicate, length-set, length-replicate, getD-replicate, List·getD-eq-default}
-use lib.Seq.{getD-set-same, getD-set-other, set-set, set-getD, set-out, take-set-le, drop-set-lt, getD-take, getD-drop, ext-getD}
+use lib.Seq.{getD-set-same, getD-set-other, set-set, set-getD, set-out, take-set-le, take-set-lt, drop-set-lt, getD-take, getD-drop, ext-getD}
 use Rattle.words.specs.Bit.{bit}
 use Rattle.words.specs.Map.{Words, slot, markedAt, clearedAt, marked, cleared}
 use Rattle.words.specs.Cases.{lt-or-ge, same-or-not}
@@ -76,6 +76,13 @@ module _ (ws : List ℕ) (w i : ℕ) where
   unfolding markedAt
   take-markedAt m h = take-set-le m ws w (bitOr (getD ws w 0) (2 ^ i)) h
 
+  -- and the part that has the word is marked itself
+  pub front-markedAt : (m : ℕ) → w < m → take m (markedAt ws w i) ≡ markedAt (take m ws) w i
+  unfolding markedAt
+  front-markedAt m h =
+      take-set-lt m ws w (bitOr (getD ws w 0) (2 ^ i)) h
+      ∙ ap (λ (x : ℕ). set (take m ws) w (bitOr x (2 ^ i))) (sym (getD-take m ws w 0 h))
+
   pub drop-markedAt : (m : ℕ) → w < m → drop m (markedAt ws w i) ≡ drop m ws
   unfolding markedAt
   drop-markedAt m h = drop-set-lt m ws w (bitOr (getD ws w 0) (2 ^ i)) h
@@ -116,6 +123,12 @@ module _ (ws : List ℕ) (w i : ℕ) where
   pub take-clearedAt : (m : ℕ) → m ≤ w → take m (clearedAt ws w i) ≡ take m ws
   unfolding clearedAt
   take-clearedAt m h = take-set-le m ws w (bitAnd (getD ws w 0) ((2 ^ 64 - 1) - 2 ^ i)) h
+
+  pub front-clearedAt : (m : ℕ) → w < m → take m (clearedAt ws w i) ≡ clearedAt (take m ws) w i
+  unfolding clearedAt
+  front-clearedAt m h =
+      take-set-lt m ws w (bitAnd (getD ws w 0) ((2 ^ 64 - 1) - 2 ^ i)) h
+      ∙ ap (λ (x : ℕ). set (take m ws) w (bitAnd x ((2 ^ 64 - 1) - 2 ^ i))) (sym (getD-take m ws w 0 h))
 
   pub drop-clearedAt : (m : ℕ) → w < m → drop m (clearedAt ws w i) ≡ drop m ws
   unfolding clearedAt

@@ -35,7 +35,7 @@ loop-holds : tie.Need-loop-holds Inv-loop μ-loop
 loop-holds c = scan-start _ _ _ (omega arith) (c .shared-slice-known .given _ .fits)
 
 returns-2 : tie.Need-returns-2 Inv-loop μ-loop
-returns-2 c = (sym (scan-none (c .before .before .loop .inv) (c .before .loop-test .taken) (c .if2 .taken)), omega arith, omega arith)
+returns-2 c = (sym (scan-none (c .before .before .loop .inv) (c .before .loop-test .taken) (omega arith)), omega arith, omega arith)
 
 add-w : tie.Need-add-w Inv-loop μ-loop
 add-w c = omega arith
@@ -50,7 +50,7 @@ loop-less : tie.Need-loop-less Inv-loop μ-loop
 loop-less c = omega arith
 
 loop-again : tie.Need-loop-again Inv-loop μ-loop
-loop-again c = scan-step (c .before .before .before .loop .inv) (c .before .before .loop-test .taken) (c .before .if2 .left) (c .shared-slice-known2 .given _ .fits)
+loop-again c = scan-step (c .before .before .before .loop .inv) (c .before .before .loop-test .taken) (omega arith) (c .shared-slice-known2 .given _ .fits)
 
 mul-j : tie.Need-mul-j Inv-loop μ-loop
 mul-j c = omega arith
@@ -65,10 +65,10 @@ returns-3 : tie.Need-returns-3 Inv-loop μ-loop
 returns-3 c =
     let i = c .before .before .loop .inv in
     let n = c .before .loop-test .left in
-    (sym (scan-at i n (c .if3 .taken)), scan-from i n, omega arith)
+    (sym (scan-at i n (omega arith)), scan-from i n, omega arith)
 
 returns-4 : tie.Need-returns-4 Inv-loop μ-loop
-returns-4 c = (sym (scan-past (c .before .before .loop .inv) (c .before .loop-test .left) (c .if3 .left)), omega arith, omega arith)
+returns-4 c = (sym (scan-past (c .before .before .loop .inv) (c .before .loop-test .left) (omega arith)), omega arith, omega arith)
 
 pub next-set-spec : {M : Type 1} → statement M
 next-set-spec =
