@@ -47,3 +47,18 @@ module _ {A : Type 0} (p : A → Bool) (d : A) where
   list-fails [] k l e = let z : ⊥ = omega arith in absurd z
   list-fails (x ∷ xs) zero l e = and-false-left (p x) (every p xs) e
   list-fails (x ∷ xs) (suc k) l e = and-false-right (p x) (every p xs) (list-fails xs k (omega arith) e)
+
+-- what passes for all passes for each
+pub and-both : (a b : Bool) → (a && b) ≡ true → (a ≡ true) × (b ≡ true)
+and-both true b h = (refl, h)
+and-both false b h = (h, (let z : b ≡ true = cc in z))
+
+pub from-at : (p : ℕ → Bool) (i n : ℕ) → every p (countFrom i n) ≡ true → (k : ℕ) → i ≤ k → k < i + n → p k ≡ true
+from-at p i zero e k a b = let z : ⊥ = omega arith in absurd z
+from-at p i (suc n) e k a b = ⊎-elim
+    (λ (h : i ≡ k). ap p (sym h) ∙ and-both (p i) (every p (countFrom (suc i) n)) e .0)
+    (λ (h : i < k). from-at p (suc i) n (and-both (p i) (every p (countFrom (suc i) n)) e .1) k (omega arith) (omega arith))
+    (eq-or-lt-of-le a)
+
+pub every-at : (p : ℕ → Bool) (n : ℕ) → every p (below n) ≡ true → (k : ℕ) → k < n → p k ≡ true
+every-at p n e k h = from-at p 0 n e k (omega arith) (omega arith)

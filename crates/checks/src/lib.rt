@@ -1,10 +1,12 @@
 // The numbers 8 to 13 that a sweep can come back with.
 ghost use mathlib.Core.Path.{_≡_};
-ghost use mathlib.Core.Bool.{not};
-ghost use Prim.Native.Nat.{_+_, _<_, _≤_};
+ghost use mathlib.Core.Bool.{not, true};
+ghost use Prim.Native.Nat.{_+_, _^_, _<_, _≤_};
 ghost use lib.ListN.{length};
 ghost use Rattle.rules.specs.Lists.{every};
 ghost use Rattle.rules.specs.Numbers.{moderate, rising};
+ghost use Rattle.checks.specs.Largest.{Largest};
+use groups::size_of;
 
 // A weight is beyond ±2^32.
 pub fn heavy(weights: [i64; 7]) -> bool
@@ -37,4 +39,22 @@ pub fn falls(xs: &[u32], n: usize) -> bool
         k += 1;
     }
     false
+}
+
+// The size of the largest bucket.
+pub fn largest_size(begins: &[u32], buckets: usize) -> usize
+    requires { ⌜ buckets + 1 ≤ length (now begins) ⌝ }
+    requires { ⌜ rising (now begins) buckets ≡ true ⌝ }
+    ensures { λ r. ⌜ (Largest (now (begins .entry)) buckets r) × (r < 2 ^ 32) ⌝ }
+{
+    let mut z = 0;
+    let mut b = 0;
+    while b < buckets {
+        let size = size_of(begins, b);
+        if z < size {
+            z = size;
+        }
+        b += 1;
+    }
+    z
 }
