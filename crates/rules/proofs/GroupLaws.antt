@@ -9,9 +9,10 @@ use native.Mathlib.Omega.{arith}
 use lib.Dec.{T, eqb}
 use lib.ListN.{length, getD, take, drop, length-take, length-drop}
 use lib.Seq.{take-all, take-add, drop-drop}
+use Rattle.words.specs.Map.{Words}
 use Rattle.rules.specs.Lists.{below, countFrom, elem, concatMap, total}
 use Rattle.rules.specs.Order.{Input, sizeOf, keysOf}
-use Rattle.rules.specs.Good.{Grouped, Words}
+use Rattle.rules.specs.Good.{Grouped}
 use Rattle.rules.proofs.Tests.{or-cases, or-left, or-right}
 use Rattle.rules.proofs.Ranges.{elem-getD, below-elem}
 use Rattle.rules.proofs.Sums.{length-concat, total-congr}
@@ -35,7 +36,6 @@ module _ (i : Input) where
   key-elem b h t = elem-drop h (begin b) (i .hashes) (elem-take h (sizeOf i b) (drop (begin b) (i .hashes)) t)
 
   pub key-small : Words (i .hashes) → (b h : ℕ) → T (elem h (keysOf i b)) → h < 2 ^ 64
-  unfolding Words
   key-small w b h t = elem-getD (λ (k : ℕ). k < 2 ^ 64) (i .hashes) w h (key-elem b h t)
 
   module _ (G : Grouped i) where

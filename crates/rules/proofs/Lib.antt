@@ -17,3 +17,4 @@ pub mod SegmentLaws
 pub mod Sums
 pub mod GroupLaws
 pub mod SweepLaws
+pub mod BitmapLaws
