@@ -18,3 +18,5 @@ pub mod Sums
 pub mod GroupLaws
 pub mod SweepLaws
 pub mod BitmapLaws
+pub mod HoleLaws
+pub mod PlacedLaws
