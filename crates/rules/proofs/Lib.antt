@@ -20,3 +20,6 @@ pub mod SweepLaws
 pub mod BitmapLaws
 pub mod HoleLaws
 pub mod PlacedLaws
+pub mod SummaryLaws
+pub mod SaidLaws
+pub mod AnswerLaws

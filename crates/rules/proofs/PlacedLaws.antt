@@ -190,7 +190,7 @@ module _ (i : Input) (G : Grouped i) where
       under (suc v) = all v (keysOf i b)
 
   -- all hashes, bucket by bucket
-  found-buckets : (seeds : List ℕ) → foundSlots (i .settings) seeds (i .hashes) ≡ concatMap (λ (b : ℕ). concatMap (lookedUp (i .settings) seeds) (keysOf i b)) (below (i .settings .buckets))
+  pub found-buckets : (seeds : List ℕ) → foundSlots (i .settings) seeds (i .hashes) ≡ concatMap (λ (b : ℕ). concatMap (lookedUp (i .settings) seeds) (keysOf i b)) (below (i .settings .buckets))
   unfolding foundSlots
   found-buckets seeds =
       ap (concatMap (lookedUp (i .settings) seeds)) (sym (keys-all i G)) ∙ concat-concat (lookedUp (i .settings) seeds) (keysOf i) (below (i .settings .buckets))

@@ -58,7 +58,7 @@ total-filter f p (x ∷ xs) h = go (split (p x)) (total-filter f p xs h)
     go (inl t) ih = rw (is-true (p x) t) (omega arith)
     go (inr t) ih = rw (is-false (p x) t) (omega (arith, h x t))
 
-total-one : (xs : List ℕ) → total (λ (x : ℕ). 1) xs ≡ length xs
+pub total-one : (xs : List ℕ) → total (λ (x : ℕ). 1) xs ≡ length xs
 total-one [] = refl
 total-one (x ∷ xs) = omega (arith, total-one xs)
 
