@@ -23,3 +23,5 @@ pub mod PlacedLaws
 pub mod SummaryLaws
 pub mod SaidLaws
 pub mod AnswerLaws
+pub mod StopLaws
+pub mod Theorems
