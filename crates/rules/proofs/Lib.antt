@@ -25,3 +25,4 @@ pub mod SaidLaws
 pub mod AnswerLaws
 pub mod StopLaws
 pub mod Theorems
+pub mod KeyLaws

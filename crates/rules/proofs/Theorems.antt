@@ -6,13 +6,14 @@ use mathlib.Core.Logic.{_⊎_, inl, inr, _≢_}
 use mathlib.Core.Bool.{Bool, true, false, not, _&&_}
 use mathlib.Core.List.{List, [], _∷_, _++_, map, append-assoc}
 use mathlib.Core.Option.{Option, none, some}
-use Prim.Native.Nat.{ℕ, zero, suc, _+_, _^_, _<_, _≤_}
+use Prim.Native.Nat.{ℕ, zero, suc, _+_, _-_, _^_, _<_, _≤_}
+use native.Mathlib.Nat.{le-trans}
 use native.Mathlib.Omega.{arith}
-use lib.Dec.{T, not-T, eqb, eqb→eq}
+use lib.Dec.{T, not-T, eqb, eqb→eq, lit≤}
 use lib.ListN.{length, getD}
 use Rattle.words.specs.Map.{Words}
 use Rattle.rules.specs.Lists.{elem, count, indicator, allFree, distinct}
-use Rattle.rules.specs.Geometry.{position}
+use Rattle.rules.specs.Geometry.{position, first, ringLen, rotations}
 use Rattle.rules.specs.Order.{Input, Tie, byLowBits, goesFirst, hasKeys, nonempty, order, keysOf}
 use Rattle.rules.specs.Seed.{fits, cost, seedFor, slotsOf}
 use Rattle.rules.specs.Sweep.{finalSeeds, finalMarks, failsAt}
@@ -22,6 +23,7 @@ use Rattle.rules.specs.Good.{Sound}
 use Rattle.rules.proofs.Tests.{split, and-right, eq→eqb}
 use Rattle.rules.proofs.Counting.{ind-true, ind-false, count-elem, not-elem-count}
 use Rattle.rules.proofs.Sums.{Same}
+use Rattle.rules.proofs.GeometryLaws.{position-lt, ring-le, entry-lt}
 use Rattle.rules.proofs.TurnLaws.{Next, order-count, order-once, order-empty, order-outside, order-next}
 use Rattle.rules.proofs.TurnUnique.{Follows, Apart, order-follows, order-only, apart-low}
 use Rattle.rules.proofs.SeedLaws.{Cheapest, seed-least, seed-none, none-seed}
@@ -30,6 +32,26 @@ use Rattle.rules.proofs.HoleLaws.{distinct-once}
 use Rattle.rules.proofs.PlacedLaws.{Proper, Placement, placement, order-proper, proper-before}
 use Rattle.rules.proofs.StopLaws.{FirstZero, first-some, first-none}
 use Rattle.rules.proofs.InputLaws.{passes}
+
+-- ---- the geometry of a sweep that was not refused
+
+pub record Shaped (i : Input) : Type 0 where
+  -- every position lies below m
+  pub positions : (v h : ℕ) → h < 2 ^ 64 → position (i .settings) v h < i .settings .m
+  -- always n ≤ R
+  pub ring : ringLen (i .settings) ≤ rotations (i .settings)
+  -- the table has an entry for each position of a key, and the difference that names it does not fall below 0
+  pub index : (b : ℕ) → b < i .settings .buckets → (h : ℕ) → T (elem h (keysOf i b)) → (v : ℕ)
+      → (first (i .settings) b ≤ position (i .settings) v h) × (position (i .settings) v h - first (i .settings) b + 95 < length (i .table))
+
+pub shaped : (i : Input) → Sound i → Shaped i
+shaped i S = record {
+  positions = λ v h lt. position-lt (i .settings) v h (S .good .m-low) lt;
+  ring = ring-le (i .settings) (omega (arith, S .good .ll-low));
+  index = λ b hb h t v.
+      let e = entry-lt (i .settings) (omega arith) b h (S .grouped .home b hb h t) v hb (le-trans (S .good .buckets-high) (lit≤ tt)) in
+      (e .0, le-trans (e .1) (S .priced .enough));
+}
 
 -- ---- two equal hashes in one bucket give 0
 
@@ -81,6 +103,7 @@ served i S w turns P b k =
 -- ---- a sweep that was not refused
 
 pub record Swept (tie : Tie) (i : Input) : Type 0 where
+  pub shape : Shaped i
   -- the order has each nonempty bucket once and no other, it follows rule W, and nothing else does
   pub permutes : Same (sweepTurns tie i) (nonempty i 0 (i .settings .buckets))
   pub follows : Follows (goesFirst tie i) (nonempty i 0 (i .settings .buckets)) (sweepTurns tie i)
@@ -103,6 +126,7 @@ module _ (tie : Tie) (i : Input) (lent : Lent) (fine : firstOf (sweepLines i len
   pub swept : Apart (goesFirst tie i) → Swept tie i
   unfolding sweepTurns
   swept A = record {
+    shape = shaped i sound;
     permutes = order-count tie i 0 (i .settings .buckets);
     follows = order-follows tie i 0 (i .settings .buckets);
     only = order-only tie i 0 (i .settings .buckets) A;
