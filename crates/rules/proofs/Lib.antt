@@ -26,3 +26,5 @@ pub mod AnswerLaws
 pub mod StopLaws
 pub mod Theorems
 pub mod KeyLaws
+pub mod Sheets
+pub mod Witness
