@@ -72,14 +72,14 @@ module _ (i : Input) where
   pub candidate-in : (c : Candidate) → List·Memᴰ c (candidates i) → (c .r < layouts (i .settings)) × (c .j < ringLen (i .settings)) × T (unbarred i c)
   unfolding candidates
   candidate-in c m =
-      let f = mem-filter (unbarred i) (rows n (below L)) m in
-      let w = mem-rows n (below L) c (f .0) in
+      let f = mem-filter (unbarred i) _ m in
+      let w = mem-rows n _ c (f .0) in
       (below-mem (c .r) L (w .0), w .1, f .1)
 
   pub in-candidates : (r j : ℕ) → r < layouts (i .settings) → j < ringLen (i .settings) → T (unbarred i (record { r = r; j = j }))
       → List·Memᴰ {A = Candidate} (record { r = r; j = j }) (candidates i)
   unfolding candidates
-  in-candidates r j hr hj t = filter-mem (unbarred i) (rows n (below L)) (rows-mem n (below L) r j (mem-below r L hr) hj) t
+  in-candidates r j hr hj t = filter-mem (unbarred i) _ (rows-mem n _ r j (mem-below r L hr) hj) t
 
   -- the seed of a candidate has the positions of j L + r
   pub seed-normal : (c : Candidate) → c .r < layouts (i .settings) → c .j < ringLen (i .settings) → normal (i .settings) (seedOf i c) ≡ c .j * layouts (i .settings) + c .r
@@ -115,9 +115,9 @@ module _ (i : Input) where
   unfolding slotsOf candidateOf normal
   slots-candidate b v = ap (λ (f : ℕ → ℕ). map f (keysOf i b)) (fun-ext (λ h. position-normal (i .settings) v h ∙ sym (seed-position (candidateOf v) h (mod-lt v (layouts-pos (i .settings))) (mod-lt (v / L) (ring-pos (i .settings))))))
 
-  pub fits-candidate : (marked : List ℕ) (b v : ℕ) → T (fits i marked b v) → T (fits i marked b (seedOf i (candidateOf v)))
+  pub fits-candidate : (marked : List ℕ) (b v : ℕ) → fits i marked b v ≡ fits i marked b (seedOf i (candidateOf v))
   unfolding fits
-  fits-candidate marked b v t = subst (λ (l : List ℕ). T (allFree marked l && distinct l)) (slots-candidate b v) t
+  fits-candidate marked b v = rw (slots-candidate b v) refl
 
   pub cost-candidate : (b v : ℕ) → cost i b v ≡ cost i b (seedOf i (candidateOf v))
   unfolding cost

@@ -23,7 +23,7 @@ packed-is p b = omega (arith, add-is (p *ℤ pos 1024) (pos (1023 - b % 1024)), 
 module _ (i : Input) where
   pub first-key : (b c : ℕ) → T (goesFirst byLowBits i b c) → T (ltZ (packed (priority i c) c) (packed (priority i b) b))
   unfolding goesFirst
-  first-key b c t = yes-lt (packed pc c) (packed pb b) (go (or-cases (ltZ pc pb) (not (ltZ pb pc) && ltb (b % 1024) (c % 1024)) t))
+  first-key b c t = yes-lt (packed pc c) (packed pb b) (go (or-cases (ltZ pc pb) (not (ltZ pb pc) && ltb (byLowBits b) (byLowBits c)) t))
     where
       pb : ℤ
       pb = priority i b
@@ -31,11 +31,11 @@ module _ (i : Input) where
       pc : ℤ
       pc = priority i c
 
-      go : T (ltZ pc pb) ⊎ T (not (ltZ pb pc) && ltb (b % 1024) (c % 1024)) → up (packed pc c) + dn (packed pb b) < up (packed pb b) + dn (packed pc c)
+      go : T (ltZ pc pb) ⊎ T (not (ltZ pb pc) && ltb (byLowBits b) (byLowBits c)) → up (packed pc c) + dn (packed pb b) < up (packed pb b) + dn (packed pc c)
       go (inl u) = let p = lt-yes pc pb u in omega (arith, packed-is pb b, packed-is pc c)
       go (inr u) =
-          let p = lt-no pb pc (and-left (not (ltZ pb pc)) (ltb (b % 1024) (c % 1024)) u) in
-          let q = ltb→lt (b % 1024) (c % 1024) (and-right (not (ltZ pb pc)) (ltb (b % 1024) (c % 1024)) u) in
+          let p = lt-no pb pc (and-left (not (ltZ pb pc)) (ltb (byLowBits b) (byLowBits c)) u) in
+          let q = ltb→lt (byLowBits b) (byLowBits c) (and-right (not (ltZ pb pc)) (ltb (byLowBits b) (byLowBits c)) u) in
           omega (arith, packed-is pb b, packed-is pc c)
 
   pub key-first : (b c : ℕ) → T (ltZ (packed (priority i c) c) (packed (priority i b) b)) → T (goesFirst byLowBits i b c)
@@ -49,14 +49,14 @@ module _ (i : Input) where
       pc = priority i c
 
       low : Bool
-      low = ltb (b % 1024) (c % 1024)
+      low = ltb (byLowBits b) (byLowBits c)
 
       go : T (ltZ pc pb) ⊎ T (not (ltZ pc pb)) → T (ltZ pb pc) ⊎ T (not (ltZ pb pc)) → T (ltZ pc pb || (not (ltZ pb pc) && low))
       go (inl u) v = or-left (ltZ pc pb) (not (ltZ pb pc) && low) u
       go (inr u) (inl v) = absurd (let k = lt-yes (packed pc c) (packed pb b) t in let p = lt-yes pb pc v in omega (arith, packed-is pb b, packed-is pc c))
       go (inr u) (inr v) =
           or-right (ltZ pc pb) (not (ltZ pb pc) && low) (and-both (not (ltZ pb pc)) low v
-          (lt→ltb (b % 1024) (c % 1024) (let k = lt-yes (packed pc c) (packed pb b) t in let p = lt-no pc pb u in let q = lt-no pb pc v in omega (arith, packed-is pb b, packed-is pc c))))
+          (lt→ltb (byLowBits b) (byLowBits c) (let k = lt-yes (packed pc c) (packed pb b) t in let p = lt-no pc pb u in let q = lt-no pb pc v in omega (arith, packed-is pb b, packed-is pc c))))
 
   -- the head of a queue of one size is its best
   pub size-first : (tie : Tie) (b c : ℕ) → sizeOf i b ≡ sizeOf i c → b < c → T (goesFirst tie i b c)

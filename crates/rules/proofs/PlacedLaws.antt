@@ -24,7 +24,7 @@ use Rattle.rules.proofs.Ranges.{below-elem}
 use Rattle.rules.proofs.Sums.{Same, total-congr, total-same, total-filter, same-length, count-concat, length-concat, concat-concat}
 use Rattle.rules.proofs.GeometryLaws.{position-lt}
 use Rattle.rules.proofs.TurnLaws.{order-once, order-empty, order-outside}
-use Rattle.rules.proofs.SeedLaws.{Cheapest, seed-least}
+use Rattle.rules.proofs.SeedLaws.{Cheapest, fits-free, fits-distinct, seed-least}
 use Rattle.rules.proofs.GroupLaws.{keys-all, keys-length, key-small}
 use Rattle.rules.proofs.SweepLaws.{seeds-at, seed-absent}
 use Rattle.rules.proofs.HoleLaws.{Once, Under, distinct-once, once-append, elem-append, holes-length}
@@ -66,16 +66,14 @@ proper-append i pre post P Q apart = record { once = λ x. one x (split (elem x 
 
 module _ (i : Input) (ok : i .settings .ll < i .settings .sb) where
   step-once : (marked : List ℕ) (b : ℕ) → Once marked → Once (takes i b (seedFor i marked b) ++ marked)
-  unfolding takes fits
+  unfolding takes
   step-once marked b h = go (seedFor i marked b) refl
     where
       go : (v : ℕ) → seedFor i marked b ≡ v → Once (takes i b v ++ marked)
       go zero e = h
       go (suc v) e =
-          let c = seed-least i marked b ok (λ z. suc-ne-zero v (sym e ∙ z)) .fit in
-          let t : T (allFree marked (slotsOf i b (suc v)) && distinct (slotsOf i b (suc v))) = rw e at c in
-          once-append (slotsOf i b (suc v)) marked (and-left (allFree marked (slotsOf i b (suc v))) (distinct (slotsOf i b (suc v))) t)
-          (distinct-once (slotsOf i b (suc v)) (and-right (allFree marked (slotsOf i b (suc v))) (distinct (slotsOf i b (suc v))) t)) h
+          let t : T (fits i marked b (suc v)) = subst (λ (u : ℕ). T (fits i marked b u)) e (seed-least i marked b ok (λ z. suc-ne-zero v (sym e ∙ z)) .fit) in
+          once-append (slotsOf i b (suc v)) marked (fits-free i marked b (suc v) t) (distinct-once (slotsOf i b (suc v)) (fits-distinct i marked b (suc v) t)) h
 
   pub marks-once : (bs marked : List ℕ) → Once marked → Once (marks i marked bs)
   unfolding marks

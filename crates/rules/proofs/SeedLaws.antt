@@ -8,12 +8,28 @@ use Prim.Native.Nat.{ℕ, _*_, _^_, _<_, _≤_}
 use native.Mathlib.Omega.{arith}
 use lib.Dec.{T, T-not, not-T, ltb, nltb→le}
 use lib.Pow.{pow-pos}
-use Rattle.rules.specs.Lists.{best, smaller, thenBy}
+use Rattle.rules.specs.Lists.{best, smaller, thenBy, allFree, distinct}
 use Rattle.rules.specs.Order.{Input}
-use Rattle.rules.specs.Seed.{Candidate, candidates, seedOf, fits, cost, cheaper, candidateFits, fitting, seedOfLeast, seedFor}
-use Rattle.rules.proofs.Tests.{not-or-left, mem-filter, filter-mem}
+use Rattle.rules.specs.Seed.{Candidate, candidates, seedOf, slotsOf, fits, cost, cheaper, candidateFits, fitting, seedOfLeast, seedFor}
+use Rattle.rules.proofs.Tests.{and-left, and-right, and-both, not-or-left, mem-filter, filter-mem}
 use Rattle.rules.proofs.Orders.{Strict, best-mem, best-top, best-is, strict-then, strict-smaller, then-level, smaller-level}
 use Rattle.rules.proofs.CandidateLaws.{candidateOf, candidate-mem, fits-candidate, cost-candidate, seed-range}
+
+-- ---- a seed that fits
+
+-- its slots are all free
+pub fits-free : (i : Input) (marked : List ℕ) (b v : ℕ) → T (fits i marked b v) → T (allFree marked (slotsOf i b v))
+unfolding fits
+fits-free i marked b v t = and-left (allFree marked (slotsOf i b v)) (distinct (slotsOf i b v)) t
+
+-- and pairwise different
+pub fits-distinct : (i : Input) (marked : List ℕ) (b v : ℕ) → T (fits i marked b v) → T (distinct (slotsOf i b v))
+unfolding fits
+fits-distinct i marked b v t = and-right (allFree marked (slotsOf i b v)) (distinct (slotsOf i b v)) t
+
+pub free-fits : (i : Input) (marked : List ℕ) (b v : ℕ) → T (allFree marked (slotsOf i b v)) → T (distinct (slotsOf i b v)) → T (fits i marked b v)
+unfolding fits
+free-fits i marked b v s t = and-both (allFree marked (slotsOf i b v)) (distinct (slotsOf i b v)) s t
 
 -- ---- the order by (cost, r, j)
 
@@ -105,7 +121,7 @@ module _ (i : Input) (marked : List ℕ) (b : ℕ) where
 
   module _ (ok : i .settings .ll < i .settings .sb) where
     fits-in : (v : ℕ) → v ≢ 0 → v < 2 ^ i .settings .sb → T (fits i marked b v) → List·Memᴰ (candidateOf i v) (fitting i marked b)
-    fits-in v ne lt t = in-fitting (candidateOf i v) (candidate-mem i ok v ne lt) (fits-candidate i marked b v t)
+    fits-in v ne lt t = in-fitting (candidateOf i v) (candidate-mem i ok v ne lt) (subst T (fits-candidate i marked b v) t)
 
     -- the seed that a bucket got fits, and none that fits costs less
     pub record Cheapest (got : ℕ) : Type 0 where

@@ -4,7 +4,7 @@ use mathlib.Core.Bool.{Bool, not, _&&_, _||_}
 use mathlib.Core.List.{List, [], _∷_, _++_}
 use Prim.Native.Nat.{ℕ}
 use lib.Dec.{eqb}
-use Rattle.rules.specs.Lists.{elem, keep, filter, allFree, distinct}
+use Rattle.rules.specs.Lists.{elem, keep, filter, allFree}
 use Rattle.rules.specs.Order.{Input}
 use Rattle.rules.specs.Seed.{candidates, seedOf, fits, candidateFits, fitting, seedFor, seedOfLeast, slotsOf}
 use Rattle.rules.specs.Sweep.{Given, takes, given}
@@ -29,7 +29,7 @@ append-same (z ∷ zs) xs ys h x = ap (λ (c : Bool). eqb x z || c) (append-same
 module _ (i : Input) where
   pub fits-same : (xs ys : List ℕ) → SameSet xs ys → (b v : ℕ) → fits i xs b v ≡ fits i ys b v
   unfolding fits
-  fits-same xs ys h b v = ap (λ (c : Bool). c && distinct (slotsOf i b v)) (free-same xs ys h (slotsOf i b v))
+  fits-same xs ys h b v = rw (free-same xs ys h (slotsOf i b v)) refl
 
   pub seed-same : (xs ys : List ℕ) → SameSet xs ys → (b : ℕ) → seedFor i xs b ≡ seedFor i ys b
   unfolding seedFor fitting candidateFits

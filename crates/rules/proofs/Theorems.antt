@@ -26,7 +26,7 @@ use Rattle.rules.proofs.Sums.{Same}
 use Rattle.rules.proofs.GeometryLaws.{position-lt, ring-le, entry-lt}
 use Rattle.rules.proofs.TurnLaws.{Next, order-count, order-once, order-empty, order-outside, order-next}
 use Rattle.rules.proofs.TurnUnique.{Follows, Apart, order-follows, order-only, apart-low}
-use Rattle.rules.proofs.SeedLaws.{Cheapest, seed-least, seed-none, none-seed}
+use Rattle.rules.proofs.SeedLaws.{Cheapest, fits-distinct, seed-least, seed-none, none-seed}
 use Rattle.rules.proofs.SweepLaws.{Turn, turn-of, no-turn}
 use Rattle.rules.proofs.HoleLaws.{distinct-once}
 use Rattle.rules.proofs.PlacedLaws.{Proper, Placement, placement, order-proper, proper-before}
@@ -64,9 +64,9 @@ count-map f x (y ∷ ys) = go (split (eqb x y)) (count-map f x ys)
     go (inr n) ih = omega (arith, ind-false (eqb x y) n)
 
 pub twice-none : (i : Input) (marked : List ℕ) (b h : ℕ) → 2 ≤ count h (keysOf i b) → (v : ℕ) → T (not (fits i marked b v))
-unfolding fits slotsOf
+unfolding slotsOf
 twice-none i marked b h two v = not-T (fits i marked b v) (λ t.
-    let once = distinct-once (slotsOf i b v) (and-right (allFree marked (slotsOf i b v)) (distinct (slotsOf i b v)) t) (position (i .settings) v h) in
+    let once = distinct-once (slotsOf i b v) (fits-distinct i marked b v t) (position (i .settings) v h) in
     let more = count-map (position (i .settings) v) h (keysOf i b) in
     omega arith)
 
