@@ -68,6 +68,12 @@ module _ (i : Input) where
   abbrev R : ℕ
   R = rotations (i .settings)
 
+  -- each (r,j) that is not barred is a candidate
+  pub in-candidates : (r j : ℕ) → r < layouts (i .settings) → j < ringLen (i .settings) → T (unbarred i (record { r = r; j = j }))
+      → List·Memᴰ {A = Candidate} (record { r = r; j = j }) (candidates i)
+  unfolding candidates
+  in-candidates r j hr hj t = filter-mem (unbarred i) _ (rows-mem n _ r j (mem-below r L hr) hj) t
+
   -- what a candidate of the list is
   pub candidate-in : (c : Candidate) → List·Memᴰ c (candidates i) → (c .r < layouts (i .settings)) × (c .j < ringLen (i .settings)) × T (unbarred i c)
   unfolding candidates
@@ -76,19 +82,22 @@ module _ (i : Input) where
       let w = mem-rows n _ c (f .0) in
       (below-mem (c .r) L (w .0), w .1, f .1)
 
-  pub in-candidates : (r j : ℕ) → r < layouts (i .settings) → j < ringLen (i .settings) → T (unbarred i (record { r = r; j = j }))
-      → List·Memᴰ {A = Candidate} (record { r = r; j = j }) (candidates i)
-  unfolding candidates
-  in-candidates r j hr hj t = filter-mem (unbarred i) _ (rows-mem n _ r j (mem-below r L hr) hj) t
+  -- the seed of (0,0), and of any other
+  pub seed-first : (c : Candidate) → T (isFirst c) → seedOf i c ≡ ringLen (i .settings) * layouts (i .settings)
+  unfolding seedOf
+  seed-first c t = rw (is-true (isFirst c) t) refl
+
+  pub seed-other : (c : Candidate) → T (not (isFirst c)) → seedOf i c ≡ c .j * layouts (i .settings) + c .r
+  unfolding seedOf
+  seed-other c t = rw (is-false (isFirst c) t) refl
 
   -- the seed of a candidate has the positions of j L + r
   pub seed-normal : (c : Candidate) → c .r < layouts (i .settings) → c .j < ringLen (i .settings) → normal (i .settings) (seedOf i c) ≡ c .j * layouts (i .settings) + c .r
-  unfolding seedOf
   seed-normal c hr hj = go (split (isFirst c))
     where
-      go : T (isFirst c) ⊎ T (not (isFirst c)) → normal (i .settings) (cond (isFirst c) (n * L) (c .j * L + c .r)) ≡ c .j * L + c .r
-      go (inl t) = let z = is-first c t in rw (is-true (isFirst c) t) (normal-whole (i .settings) ∙ rw (z .0, z .1) (omega arith))
-      go (inr t) = rw (is-false (isFirst c) t) (normal-small (i .settings) (c .r) (c .j) hr hj)
+      go : T (isFirst c) ⊎ T (not (isFirst c)) → normal (i .settings) (seedOf i c) ≡ c .j * L + c .r
+      go (inl t) = let z = is-first c t in rw (seed-first c t) (normal-whole (i .settings) ∙ rw (z .0, z .1) (omega arith))
+      go (inr t) = rw (seed-other c t) (normal-small (i .settings) (c .r) (c .j) hr hj)
 
   pub seed-position : (c : Candidate) (h : ℕ) → c .r < layouts (i .settings) → c .j < ringLen (i .settings)
       → position (i .settings) (seedOf i c) h ≡ position (i .settings) (c .j * layouts (i .settings) + c .r) h
@@ -123,6 +132,15 @@ module _ (i : Input) where
   unfolding cost
   cost-candidate b v = rw (slots-candidate b v) refl
 
+  -- (0,0) is barred when n = R, and nothing else is
+  open-unbarred : (c : Candidate) → T (isFirst c) → n ≡ R → T (unbarred i c) → ⊥
+  unfolding unbarred barred
+  open-unbarred c t e u = T-not (isFirst c && eqb n R) u (and-both (isFirst c) (eqb n R) t (eq→eqb n R e))
+
+  unbarred-by : (c : Candidate) → (T (isFirst c) → n ≡ R → ⊥) → T (unbarred i c)
+  unfolding unbarred barred
+  unbarred-by c h = not-T (isFirst c && eqb n R) (λ t. h (and-left (isFirst c) (eqb n R) t) (eqb→eq n R (and-right (isFirst c) (eqb n R) t)))
+
   seed-zero : (v : ℕ) → n ≡ R → v / L < R → candidateOf v .r ≡ 0 → candidateOf v .j ≡ 0 → v ≡ 0
   unfolding candidateOf
   seed-zero v en lt er ej =
@@ -135,17 +153,10 @@ module _ (i : Input) where
 
     -- the candidate of a nonzero seed below 2^sb is not barred
     candidate-unbarred : (v : ℕ) → v ≢ 0 → v < 2 ^ i .settings .sb → T (unbarred i (candidateOf v))
-    unfolding unbarred barred
-    candidate-unbarred v ne lt = not-T (isFirst (candidateOf v) && eqb n R) closed
+    candidate-unbarred v ne lt = unbarred-by (candidateOf v) (λ t e. let z = is-first (candidateOf v) t in ne (seed-zero v e in-ring (z .0) (z .1)))
       where
         in-ring : v / L < R
         in-ring = div-lt-iff-lt-mul {k = L} {x = v} {y = R} (layouts-pos (i .settings)) .1 (rw all-seeds lt)
-
-        closed : T (isFirst (candidateOf v) && eqb n R) → ⊥
-        closed t =
-            let en : n ≡ R = eqb→eq n R (and-right (isFirst (candidateOf v)) (eqb n R) t) in
-            let z = is-first (candidateOf v) (and-left (isFirst (candidateOf v)) (eqb n R) t) in
-            ne (seed-zero v en in-ring (z .0) (z .1))
 
     pub candidate-mem : (v : ℕ) → v ≢ 0 → v < 2 ^ i .settings .sb → List·Memᴰ (candidateOf v) (candidates i)
     unfolding candidateOf
@@ -154,7 +165,6 @@ module _ (i : Input) where
 
     -- a candidate's seed is no 0, and below 2^sb
     pub seed-range : (c : Candidate) → List·Memᴰ c (candidates i) → (0 < seedOf i c) × (seedOf i c < 2 ^ i .settings .sb)
-    unfolding seedOf unbarred barred
     seed-range c m = go (split (isFirst c))
       where
         le : n ≤ R
@@ -163,12 +173,12 @@ module _ (i : Input) where
         lp : 0 < L
         lp = layouts-pos (i .settings)
 
-        known : (c .r < L) × (c .j < n) × T (not (isFirst c && eqb n R))
+        known : (c .r < L) × (c .j < n) × T (unbarred i c)
         known = candidate-in c m
 
         room : T (isFirst c) → n < R
-        room t = lt-of-le-ne le (λ e. T-not (isFirst c && eqb n R) (known .2) (and-both (isFirst c) (eqb n R) t (eq→eqb n R e)))
+        room t = lt-of-le-ne le (λ e. open-unbarred c t e (known .2))
 
-        go : T (isFirst c) ⊎ T (not (isFirst c)) → (0 < cond (isFirst c) (n * L) (c .j * L + c .r)) × (cond (isFirst c) (n * L) (c .j * L + c .r) < 2 ^ i .settings .sb)
-        go (inl t) = rw (is-true (isFirst c) t) (mul-pos (ring-pos (i .settings)) lp, rw (← all-seeds) (mul-lt-mul-of-pos-right (room t) lp))
-        go (inr t) = rw (is-false (isFirst c) t) (not-first L c lp t, omega (arith, digits-lt {q = c .j} {m = n} {r = c .r} {c = L} (known .1) (known .0), mul-le-mul-right L le, all-seeds))
+        go : T (isFirst c) ⊎ T (not (isFirst c)) → (0 < seedOf i c) × (seedOf i c < 2 ^ i .settings .sb)
+        go (inl t) = rw (seed-first c t) (mul-pos (ring-pos (i .settings)) lp, rw (← all-seeds) (mul-lt-mul-of-pos-right (room t) lp))
+        go (inr t) = rw (seed-other c t) (not-first L c lp t, omega (arith, digits-lt {q = c .j} {m = n} {r = c .r} {c = L} (known .1) (known .0), mul-le-mul-right L le, all-seeds))

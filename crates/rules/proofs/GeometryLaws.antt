@@ -76,7 +76,7 @@ module _ (s : Settings) where
 
   pub stride-le : stride s ≤ logLen s
   unfolding stride
-  stride-le = min-le-right (s .ll + scale s) (logLen s)
+  stride-le = omega arith
 
   pub stride-high : s .«log2_slice_len» ≤ 16 → stride s ≤ 16
   stride-high h = omega (arith, stride-le, logLen-le)

@@ -17,15 +17,15 @@ use Rattle.rules.proofs.CandidateLaws.{candidateOf, candidate-mem, fits
 
 -- ---- a seed that fits
 
--- its slots are all free
-pub fits-free : (i : Input) (marked : List ℕ) (b v : ℕ) → T (fits i marked b v) → T (allFree marked (slotsOf i b v))
-unfolding fits
-fits-free i marked b v t = and-left (allFree marked (slotsOf i b v)) (distinct (slotsOf i b v)) t
-
--- and pairwise different
+-- its slots are pairwise different
 pub fits-distinct : (i : Input) (marked : List ℕ) (b v : ℕ) → T (fits i marked b v) → T (distinct (slotsOf i b v))
 unfolding fits
 fits-distinct i marked b v t = and-right (allFree marked (slotsOf i b v)) (distinct (slotsOf i b v)) t
+
+-- and all free
+pub fits-free : (i : Input) (marked : List ℕ) (b v : ℕ) → T (fits i marked b v) → T (allFree marked (slotsOf i b v))
+unfolding fits
+fits-free i marked b v t = and-left (allFree marked (slotsOf i b v)) (distinct (slotsOf i b v)) t
 
 pub free-fits : (i : Input) (marked : List ℕ) (b v : ℕ) → T (allFree marked (slotsOf i b v)) → T (distinct (slotsOf i b v)) → T (fits i marked b v)
 unfolding fits
