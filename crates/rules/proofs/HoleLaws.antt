@@ -61,15 +61,11 @@ elem-append x xs ys t = go (split (elem x xs)) (split (elem x ys))
 -- ---- holes of any bitmap
 
 module _ (m : ℕ) (ws : List ℕ) where
-  pub holes-ascending : Ascending (holesOf m ws)
-  unfolding holesOf
-  holes-ascending = ascending-filter (unmarked ws) (below m) (ascending-from 0 m)
-
   -- x is a hole exactly where it is a slot below m whose bit is 0
   pub hole-in : (x : ℕ) → T (elem x (holesOf m ws)) → (x < m) × (slot ws x ≡ 0)
   unfolding holesOf unmarked
   hole-in x t =
-      let w = mem-filter (unmarked ws) (below m) (elem-mem x (holesOf m ws) t) in
+      let w = mem-filter (unmarked ws) _ (elem-mem x (holesOf m ws) t) in
       (below-mem x m (w .0), zero-of (slot-cases ws x) (neq (slot ws x) 1 (w .1)))
     where
       zero-of : (slot ws x ≡ 0) ⊎ (slot ws x ≡ 1) → (slot ws x ≡ 1 → ⊥) → slot ws x ≡ 0
@@ -79,6 +75,10 @@ module _ (m : ℕ) (ws : List ℕ) where
   pub in-holes : (x : ℕ) → x < m → slot ws x ≡ 0 → T (elem x (holesOf m ws))
   unfolding holesOf unmarked
   in-holes x h e = mem-elem (filter-mem (unmarked ws) (below m) (mem-below x m h) (neq→neqb (slot ws x) 1 (λ z. omega arith)))
+
+  pub holes-ascending : Ascending (holesOf m ws)
+  unfolding holesOf
+  holes-ascending = ascending-filter (unmarked ws) (below m) (ascending-from 0 m)
 
 -- ---- holes and marked slots add up
 

@@ -35,7 +35,7 @@ module _ (i : Input) where
   pub marks-append : (pre post marked : List ℕ) → marks i marked (pre ++ post) ≡ marks i (marks i marked pre) post
   unfolding marks
   marks-append [] post marked = refl
-  marks-append (p ∷ pre) post marked = marks-append pre post (takes i p (seedFor i marked p) ++ marked)
+  marks-append (p ∷ pre) post marked = marks-append pre post _
 
   pub given-append : (pre post marked : List ℕ) → given i marked (pre ++ post) ≡ given i marked pre ++ given i (marks i marked pre) post
   unfolding given marks
