@@ -3,3 +3,4 @@ pub mod SetBits
 pub mod Walk
 pub mod Filling
 pub mod Cases
+pub mod Spare

@@ -1,15 +1,13 @@
+-- How many holes there are. The total so far and the holes from word w on make all of them, and one turn moves a free word's ones across.
 use Prim.Native.Nat.{_≤_, _+_, _-_}
-use mathlib.Core.Path.{_≡_, sym, ap, _∙_}
+use mathlib.Core.Path.{_≡_, ap}
 use native.Mathlib.Omega.{arith}
 use lib.ListN.{length}
 use lib.Count.{ones, ones-le}
 use Rattle.rules.specs.Holes.{holesOf}
-use Rattle.holes.proofs.Walk.{restFrom, free-lt, rest-all, rest-none, holes-length, count-step}
+use Rattle.holes.proofs.Walk.{restFrom, rest-all, rest-none, holes-length, count-step}
 use Rattle.holes.proofs.count_holes.Statement.{statement}
 use Rattle.holes.proofs.count_holes.Tie as tie
-use Rattle.holes.proofs.count_holes.Reads as reads
-use Rattle.holes.proofs.count_holes.Lts as lts
-use Rattle.holes.proofs.free_word.Reads as free-word-reads
 
 abbrev Inv-loop : tie.InvT-loop
 Inv-loop m bitmap total₀ w₀ w-end total w = (w-end ≡ length bitmap) × (w ≤ w-end) × (total + length (restFrom m bitmap w) ≡ length (holesOf m bitmap))
@@ -17,41 +15,34 @@ Inv-loop m bitmap total₀ w₀ w-end total w = (w-end ≡ length bitmap) × (w 
 abbrev μ-loop : tie.MeasureT-loop
 μ-loop m bitmap total₀ w₀ w-end total w = w-end - w
 
+-- the holes from word w on are its free word's ones and those from the next word on
 one-more : (c : tie.After-free-word Inv-loop μ-loop)
     → length (restFrom (c .before .before .before .before .args .m) (c .before .before .before .before .args .bitmap .now) (c .before .before .loop .w))
     ≡ ones (c .free-word .result)
     + length (restFrom (c .before .before .before .before .args .m) (c .before .before .before .before .args .bitmap .now) (c .before .before .loop .w + 1))
 one-more c = rw (c .free-word .ensures) (count-step _ _ _ (c .before .before .before .shared-slice-known .given _ .fits))
 
--- src/lib.rt:32:5
 loop-holds : tie.Need-loop-holds Inv-loop μ-loop
 loop-holds c = omega (arith, ap length (rest-all (c .before .args .m) (c .before .args .bitmap .now)))
 
--- src/lib.rt:33:34
 free-word-requires : tie.Need-free-word-requires Inv-loop μ-loop
 free-word-requires c κs = omega arith
 
--- src/lib.rt:33:18
 cast-total : tie.Need-cast-total Inv-loop μ-loop
 cast-total c = omega (arith, ones-le 64 (c .free-word .result) (omega arith))
 
--- src/lib.rt:33:9
 add-total : tie.Need-add-total Inv-loop μ-loop
 add-total c = omega (arith, one-more c, holes-length (c .before .before .before .before .args .m) (c .before .before .before .before .args .bitmap .now))
 
--- src/lib.rt:32:9
 add-w : tie.Need-add-w Inv-loop μ-loop
 add-w c = omega arith
 
--- src/lib.rt:32:5
 loop-less : tie.Need-loop-less Inv-loop μ-loop
 loop-less c = omega arith
 
--- src/lib.rt:32:5
 loop-again : tie.Need-loop-again Inv-loop μ-loop
 loop-again c = omega (arith, one-more c)
 
--- src/lib.rt:27:1
 returns : tie.Need-returns Inv-loop μ-loop
 returns c =
     let a = c .before .before .before .args in

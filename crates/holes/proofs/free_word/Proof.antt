@@ -1,3 +1,4 @@
+-- The holes of one word as bits: the complement, masked where fewer than 64 slots are left.
 use Prim.Native.Nat.{_-_, _*_}
 use native.Mathlib.Omega.{arith}
 use Rattle.words.specs.ShiftLaws.{one-shl-pos}
@@ -5,40 +6,30 @@ use Rattle.holes.proofs.Walk.{free-part, free-whole}
 use borrow.Author.Needs.{needs}
 use Rattle.holes.proofs.free_word.Statement.{statement}
 use Rattle.holes.proofs.free_word.Tie as tie
-use Rattle.holes.proofs.free_word.Reads as reads
-use Rattle.holes.proofs.free_word.Lts as lts
 
--- src/lib.rt:17:17
 mul-free : tie.Need-mul-free
 mul-free c = search needs
 
--- src/lib.rt:17:17
 shared-slice-read-free : tie.Need-shared-slice-read-free
 shared-slice-read-free c = search needs
 
--- src/lib.rt:18:21
 mul-valid : tie.Need-mul-valid
 mul-valid c = search needs
 
--- src/lib.rt:18:17
 sub-valid : tie.Need-sub-valid
 sub-valid c = search needs
 
--- src/lib.rt:20:18
 shl-result : tie.Need-shl-result
 shl-result c = search needs
 
--- src/lib.rt:20:17
 sub-result : tie.Need-sub-result
 sub-result c =
     let v = c .before .before .args .m - c .before .before .args .w * 64 in
     omega (arith, one-shl-pos 64 v (c .if1 .taken))
 
--- src/lib.rt:13:1
 returns : tie.Need-returns
 returns c = free-part _ _ _ (c .if1 .taken)
 
--- src/lib.rt:13:1
 returns-2 : tie.Need-returns-2
 returns-2 c = free-whole _ _ _ (c .if1 .left)
 

@@ -1,20 +1,18 @@
-use mathlib.Core.List.{_∷_}
-use lib.Bits.{bitAnd, and-le-r}
-use Rattle.holes.proofs.Filling.{Filling, fill-start, fill-restart, fill-end, fill-room, fill-put, fill-chain, fill-slots, fill-word}
-use Rattle.rules.specs.Holes.{holesOf}
-use Rattle.holes.proofs.Walk.{restFrom, free-lt, rest-all, rest-none, rest-step}
-use Rattle.holes.proofs.SetBits.{setSlots}
-use lib.Count.{trailingZeros, trailing-le}
-use lib.ListN.{length}
-use native.Mathlib.Omega.{arith}
-use mathlib.Core.List.{_++_}
-use mathlib.Core.Path.{_≡_, sym, ap, _∙_}
+-- The holes at the front of the buffer. Both loops keep that what is written and what is left make the whole list: the outer one leaves the
+-- holes from word w on, the inner one the set bits of what remains of a free word before those of the next words.
 use Prim.Native.Nat.{_≤_, _<_, _+_, _-_, _*_, _^_}
+use mathlib.Core.Path.{_≡_}
+use mathlib.Core.List.{_∷_, _++_}
+use native.Mathlib.Omega.{arith}
+use lib.ListN.{length}
+use lib.Bits.{bitAnd, and-le-r}
+use lib.Count.{trailingZeros, trailing-le}
+use Rattle.rules.specs.Holes.{holesOf}
+use Rattle.holes.proofs.SetBits.{setSlots}
+use Rattle.holes.proofs.Walk.{restFrom, rest-all, rest-none, rest-step}
+use Rattle.holes.proofs.Filling.{Filling, fill-start, fill-restart, fill-end, fill-room, fill-put, fill-chain, fill-slots, fill-word}
 use Rattle.holes.proofs.list_holes.Statement.{statement}
 use Rattle.holes.proofs.list_holes.Tie as tie
-use Rattle.holes.proofs.list_holes.Reads as reads
-use Rattle.holes.proofs.list_holes.Lts as lts
-use Rattle.holes.proofs.free_word.Reads as free-word-reads
 
 abbrev Inv-loop2 : tie.InvT-loop2
 Inv-loop2 m bitmap out₀ n₀ w free₀ w-end out n free =
@@ -29,23 +27,21 @@ Inv-loop m bitmap out₀ n₀ w₀ w-end out n w = (w-end ≡ length bitmap) × 
 abbrev μ-loop : tie.MeasureT-loop
 μ-loop m bitmap out₀ n₀ w₀ w-end out n w = w-end - w
 
+-- the lowest set bit is the next element
 next : (c : tie.In-loop2 Inv-loop2 μ-loop2 Inv-loop μ-loop)
     → let a = c .before .before .before .before .before .before .before .args in
     let w = c .before .before .before .before .loop .w in
     let l = c .before .loop2 in
     Filling (holesOf (a .m) (a .bitmap .now)) (c .before .before .before .before .loop .out) (l .out) (l .n)
     ((w * 64 + trailingZeros 64 (l .free)) ∷ (setSlots (w * 64) 64 (bitAnd (l .free) (l .free - 1)) ++ restFrom (a .m) (a .bitmap .now) (w + 1)))
-next c = fill-slots _ _ _ (c .before .loop2 .inv .0) (c .loop2-test .taken) (c .before .loop2 .inv .2)
+next c = fill-slots _ _ _ (c .before .loop2 .inv .0) (omega (arith, c .loop2-test .taken)) (c .before .loop2 .inv .2)
 
--- src/lib.rt:44:5
 loop-holds : tie.Need-loop-holds Inv-loop2 μ-loop2 Inv-loop μ-loop
 loop-holds c = (omega arith, omega arith, rw rest-all (fill-start _ _ (c .before .before .pre .2)))
 
--- src/lib.rt:45:13
 free-word-requires : tie.Need-free-word-requires Inv-loop2 μ-loop2 Inv-loop μ-loop
 free-word-requires c κs = omega arith
 
--- src/lib.rt:46:9
 loop2-holds : tie.Need-loop2-holds Inv-loop2 μ-loop2 Inv-loop μ-loop
 loop2-holds c = (
   omega arith,
@@ -53,59 +49,45 @@ loop2-holds c = (
   rw (c .free-word .ensures, ← rest-step _ _ _ (c .before .before .before .before .shared-slice-known .given _ .fits)) (fill-restart (c .before .before .loop .inv .2)),
 )
 
--- src/lib.rt:47:23
 mul-out : tie.Need-mul-out Inv-loop2 μ-loop2 Inv-loop μ-loop
 mul-out c = omega arith
 
--- src/lib.rt:47:22
 cast-out : tie.Need-cast-out Inv-loop2 μ-loop2 Inv-loop μ-loop
 cast-out c = omega arith
 
--- src/lib.rt:47:22
 add-out : tie.Need-add-out Inv-loop2 μ-loop2 Inv-loop μ-loop
 add-out c = omega (arith, trailing-le 64 (c .before .loop2 .free))
 
--- src/lib.rt:47:13
 mul-out-2 : tie.Need-mul-out-2 Inv-loop2 μ-loop2 Inv-loop μ-loop
 mul-out-2 c = omega arith
 
--- src/lib.rt:47:13
 slice-write-out : tie.Need-slice-write-out Inv-loop2 μ-loop2 Inv-loop μ-loop
 slice-write-out c = fill-room (next c)
 
--- src/lib.rt:48:13
 add-n : tie.Need-add-n Inv-loop2 μ-loop2 Inv-loop μ-loop
 add-n c = omega arith
 
--- src/lib.rt:49:21
 sub-free : tie.Need-sub-free Inv-loop2 μ-loop2 Inv-loop μ-loop
 sub-free c = omega arith
 
--- src/lib.rt:46:9
 loop2-less : tie.Need-loop2-less Inv-loop2 μ-loop2 Inv-loop μ-loop
 loop2-less c = omega (arith, c .loop2-test .taken, and-le-r (c .before .loop2 .free) (c .before .loop2 .free - 1))
 
--- src/lib.rt:46:9
 loop2-again : tie.Need-loop2-again Inv-loop2 μ-loop2 Inv-loop μ-loop
 loop2-again c = (omega (arith, and-le-r (c .before .loop2 .free) (c .before .loop2 .free - 1)), omega arith, fill-put (next c))
 
--- src/lib.rt:44:9
 add-w : tie.Need-add-w Inv-loop2 μ-loop2 Inv-loop μ-loop
 add-w c = omega arith
 
--- src/lib.rt:44:5
 loop-less : tie.Need-loop-less Inv-loop2 μ-loop2 Inv-loop μ-loop
 loop-less c = omega arith
 
--- src/lib.rt:44:5
 loop-again : tie.Need-loop-again Inv-loop2 μ-loop2 Inv-loop μ-loop
-loop-again c = (omega arith, omega arith, fill-chain (c .before .before .before .before .loop .inv .2) (fill-word _ _ _ (c .loop2-test .left) (c .before .loop2 .inv .2)) (c .before .loop2 .inv .1))
+loop-again c = (omega arith, omega arith, fill-chain (c .before .before .before .before .loop .inv .2) (fill-word _ _ _ (omega (arith, c .loop2-test .left)) (c .before .loop2 .inv .2)) (c .before .loop2 .inv .1))
 
--- src/lib.rt:39:1
 same-length : tie.Need-same-length Inv-loop2 μ-loop2 Inv-loop μ-loop
 same-length c = c .before .loop .inv .2 .same
 
--- src/lib.rt:39:1
 returns : tie.Need-returns Inv-loop2 μ-loop2 Inv-loop μ-loop
 returns c = fill-end (c .before .loop .inv .2) (rest-none _ _ _ (omega arith))
 
