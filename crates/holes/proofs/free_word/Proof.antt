@@ -25,13 +25,13 @@ shl-result c = search needs
 sub-result : tie.Need-sub-result
 sub-result c =
     let v = c .before .before .args .m - c .before .before .args .w * 64 in
-    omega (arith, one-shl-pos 64 v (c .if1 .taken))
+    omega (arith, one-shl-pos 64 v (omega arith))
 
 returns : tie.Need-returns
-returns c = free-part _ _ _ (c .if1 .taken)
+returns c = let a = c .before .before .args in free-part (a .m) (a .bitmap .now) (a .w) (omega arith)
 
 returns-2 : tie.Need-returns-2
-returns-2 c = free-whole _ _ _ (c .if1 .left)
+returns-2 c = let a = c .before .before .args in free-whole (a .m) (a .bitmap .now) (a .w) (omega arith)
 
 pub free-word-spec : {M : Type 1} → statement M
 free-word-spec =

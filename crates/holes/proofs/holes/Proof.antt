@@ -10,7 +10,9 @@ returns : tie.Need-returns
 returns c = refused _ _ _ 4 (none-slots _ _ _ (c .if1 .taken))
 
 returns-2 : tie.Need-returns-2
-returns-2 c = refused _ _ _ 4 (many-slots _ _ _ (c .before .if1 .left) (c .if2 .taken))
+returns-2 c =
+    let a = c .before .before .before .before .args in
+    refused _ _ _ 4 (many-slots (a .m) (a .bitmap .now) (length (a .out .now)) (omega arith) (omega arith))
 
 add-if3 : tie.Need-add-if3
 add-if3 c = search needs
