@@ -1,4 +1,4 @@
--- The house table of document 01: 2,048 entries, entry d = 2 ^ 24 · log2 d rounded to nearest, entry 0 = 0. `House` says it of a list, in whole
+-- The house table: 2,048 entries, entry d = 2 ^ 24 · log2 d rounded to nearest, entry 0 = 0. `House` says it of a list, in whole
 -- numbers, and `houseTable` computes it. Assumes nothing.
 use mathlib.Core.Path.{_≡_}
 use mathlib.Core.Bool.{cond}
