@@ -8,7 +8,8 @@ use lib.Dec.{ltb}
 use lib.ListN.{length, getD}
 use Rattle.integers.specs.Power.{logUp}
 
--- t is N / 2 · log2 d, rounded to nearest: 2 t - 1 < N · log2 d < 2 t + 1, with each side as a power of two and both doubled where needed
+-- t is N / 2 · log2 d rounded to nearest: 2 t - 1 < N · log2 d < 2 t + 1, that is 2 ^ (2 t - 1) < d ^ N < 2 ^ (2 t + 1). The first is doubled, so
+-- that its exponent is never negative.
 pub record Nearest (N d t : ℕ) : Type 0 where
   pub below : 2 ^ (2 * t) < 2 * d ^ N
   pub above : d ^ N < 2 * 2 ^ (2 * t)
