@@ -1,0 +1,106 @@
+//! The generator stays in the domain and meets every shape, and document 01 says what the Rust does.
+
+use oracle::cases;
+use oracle::shapes::Met;
+use oracle::{
+    Answer, Case, Outcome, chunks, domain, log2_table, naive, outcome, positions, sheets, sweep,
+    text,
+};
+
+const SMALL: usize = 3000;
+
+/// All cases of the seed that ORACLE_SEED gives ('fixed' or none: the fixed one).
+fn all_cases() -> impl Iterator<Item = Case> {
+    let seed = std::env::var("ORACLE_SEED").unwrap_or_default();
+    cases::all(cases::seed(&seed).expect("ORACLE_SEED is a number, or 'fixed'"), SMALL)
+}
+
+#[test]
+fn sheets_are_the_rusts() {
+    assert_eq!(sheets::all().wrong, Vec::<String>::new());
+}
+
+#[test]
+fn cases_lie_in_the_domain() {
+    for case in all_cases() {
+        assert_eq!(domain::refused(&case), None, "{:?}", case.settings);
+    }
+}
+
+#[test]
+fn every_shape_and_setting_is_met() {
+    let mut met = Met::default();
+    for case in all_cases() {
+        met.note_case(&case);
+    }
+    assert_eq!(met.missing(), Vec::<&str>::new(), "shapes that no case has");
+    for setting in cases::all_settings() {
+        assert!(met.settings.contains_key(&setting), "no case has the setting {setting:?}");
+    }
+}
+
+/// What a naive sweep by document 01 comes back with.
+fn naive_outcome(case: &Case) -> Outcome {
+    let turns = naive::turns(case);
+    if let Some(last) = turns.last().filter(|turn| turn.seed == 0 && !case.bump) {
+        return Outcome::Stopped(last.bucket);
+    }
+    let m = case.settings.m;
+    let mut seeds = vec![0u16; case.settings.buckets];
+    let mut bitmap = vec![0u64; m.div_ceil(64)];
+    for turn in turns.iter().filter(|turn| turn.seed != 0) {
+        seeds[turn.bucket] = turn.seed as u16;
+        let keys: Vec<_> = case.keys(turn.bucket).iter().map(|&h| (h, turn.seed)).collect();
+        for p in positions(&case.settings, &keys) {
+            bitmap[p / 64] |= 1 << (p % 64);
+        }
+    }
+    let holes = (0..m).filter(|p| bitmap[p / 64] >> (p % 64) & 1 == 0).map(|p| p as u32).collect();
+    Outcome::Done(Answer { seeds, bitmap, holes })
+}
+
+#[test]
+fn document_01_says_what_the_rust_does() {
+    let mut compared = 0;
+    for case in all_cases() {
+        if naive::is_small(&case) {
+            assert_eq!(naive::order(&case), oracle::order(&case), "order of {:?}", case);
+            assert_eq!(naive_outcome(&case), outcome(&case), "{}", text::case(&case));
+            compared += 1;
+        }
+    }
+    assert!(compared > SMALL, "only {compared} cases were small enough");
+}
+
+#[test]
+fn the_house_rule_holds_for_the_rusts_table() {
+    let table = log2_table(131_072);
+    assert_eq!((table[0], table[1]), (0, 0));
+    for d in 2..table.len() {
+        assert!(table[d - 1] < table[d], "entry {d}");
+    }
+    for d in 1..table.len() / 2 {
+        assert_eq!(table[2 * d], table[d] + (1 << 24), "entry {}", 2 * d);
+    }
+}
+
+#[test]
+fn several_chunks_are_swept() {
+    let case = cases::family(cases::SEED, 1_000_000);
+    assert_eq!((chunks(&case.settings, 1), chunks(&case.settings, 4)), (1, 4));
+    let (one, four) = (sweep(&case, 1).unwrap(), sweep(&case, 4).unwrap());
+    assert_ne!(one.seeds, four.seeds);
+    for answer in [one, four] {
+        let placed: u32 = answer.bitmap.iter().map(|word| word.count_ones()).sum();
+        let seeded = (0..case.settings.buckets).filter(|&b| answer.seeds[b] != 0);
+        assert_eq!(placed as usize, seeded.map(|b| case.keys(b).len()).sum::<usize>());
+        assert_eq!(placed as usize + answer.holes.len(), case.settings.m);
+    }
+}
+
+#[test]
+fn text_reads_back() {
+    for case in all_cases().take(200) {
+        assert_eq!(text::read(&text::case(&case)), Ok(vec![case]));
+    }
+}
