@@ -59,15 +59,40 @@ fn naive_outcome(case: &Case) -> Outcome {
     Outcome::Done(Answer { seeds, bitmap, holes })
 }
 
+/// The first place at which two lists differ, with what stands there.
+fn first_difference<T: PartialEq + std::fmt::Debug>(naive: &[T], rust: &[T]) -> String {
+    let same = naive.iter().zip(rust).take_while(|(a, b)| a == b).count();
+    format!("at {same} the document has {:?} and the Rust {:?}", naive.get(same), rust.get(same))
+}
+
+/// What differs between two outcomes, if anything.
+fn difference(naive: Outcome, rust: Outcome) -> Option<String> {
+    if naive == rust {
+        return None;
+    }
+    let (Outcome::Done(a), Outcome::Done(b)) = (&naive, &rust) else {
+        return Some("one of the two is stopped, or both at other buckets".to_string());
+    };
+    Some(if a.seeds != b.seeds {
+        format!("seeds: {}", first_difference(&a.seeds, &b.seeds))
+    } else if a.bitmap != b.bitmap {
+        format!("bitmap: {}", first_difference(&a.bitmap, &b.bitmap))
+    } else {
+        format!("holes: {}", first_difference(&a.holes, &b.holes))
+    })
+}
+
 #[test]
 fn document_01_says_what_the_rust_does() {
     let mut compared = 0;
-    for case in all_cases() {
-        if naive::is_small(&case) {
-            assert_eq!(naive::order(&case), oracle::order(&case), "order of {:?}", case);
-            assert_eq!(naive_outcome(&case), outcome(&case), "{}", text::case(&case));
-            compared += 1;
+    for (i, case) in all_cases().enumerate().filter(|(_, case)| naive::is_small(case)) {
+        let (by_document, by_rust) = (naive::order(&case), oracle::order(&case));
+        let order = first_difference(&by_document, &by_rust);
+        assert!(by_document == by_rust, "case {i}, {:?}: order: {order}", case.settings);
+        if let Some(found) = difference(naive_outcome(&case), outcome(&case)) {
+            panic!("case {i}, {:?}: {found}", case.settings);
         }
+        compared += 1;
     }
     assert!(compared > SMALL, "only {compared} cases were small enough");
 }
