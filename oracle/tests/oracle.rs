@@ -3,8 +3,7 @@
 use oracle::cases;
 use oracle::shapes::Met;
 use oracle::{
-    Answer, Case, Outcome, chunks, domain, log2_table, naive, outcome, positions, sheets, sweep,
-    text,
+    Answer, Case, Outcome, chunks, domain, log2_table, naive, outcome, positions, sweep, text,
 };
 
 const SMALL: usize = 3000;
@@ -13,11 +12,6 @@ const SMALL: usize = 3000;
 fn all_cases() -> impl Iterator<Item = Case> {
     let seed = std::env::var("ORACLE_SEED").unwrap_or_default();
     cases::all(cases::seed(&seed).expect("ORACLE_SEED is a number, or 'fixed'"), SMALL)
-}
-
-#[test]
-fn sheets_are_the_rusts() {
-    assert_eq!(sheets::all().wrong, Vec::<String>::new());
 }
 
 #[test]
