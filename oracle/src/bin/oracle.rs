@@ -13,12 +13,13 @@ oracle positions SEED          bucket, slice, offsets and position of each hash 
 oracle firsts                  first slice of each bucket of the cases
 oracle order                   the order in which the buckets of the cases are taken
 oracle table ENTRIES           the logarithm table
-oracle cases SEED COUNT        generated cases: each setting, the named ones, COUNT small ones
-oracle answered SEED COUNT     the same with the table and the Rust's answers, in house numbers
-oracle shapes SEED COUNT       how often the same cases meet each shape
+oracle cases CHOICE            generated cases
+oracle answered CHOICE         the same with the table and the Rust's answers, in house numbers
+oracle shapes CHOICE           how often the same cases meet each shape
 oracle house                   the cases on standard input in house numbers
 oracle time KEYS [SEED]        seconds of one sweep of a generated family, the best of five
-A SEED is a number, or 'fixed'.";
+A CHOICE is SEED COUNT [LIMIT]: each setting, the named ones and COUNT small ones, without those of
+more than LIMIT keys or slots. A SEED of the generator is a number, or 'fixed'.";
 
 type Words<'a> = std::slice::Iter<'a, String>;
 
@@ -30,6 +31,14 @@ fn number<T: std::str::FromStr>(words: &mut Words, what: &str) -> Result<T, Stri
 fn seed(words: &mut Words) -> Result<u64, String> {
     let word = words.next().map_or("", String::as_str);
     cases::seed(word).ok_or(format!("the seed '{word}' is neither a number nor 'fixed'"))
+}
+
+/// The generated cases that a CHOICE names.
+fn chosen(words: &mut Words) -> Result<Vec<Case>, String> {
+    let (seed, count) = (seed(words)?, number(words, "the count")?);
+    let limit = if words.len() == 0 { usize::MAX } else { number(words, "the limit")? };
+    let within = |case: &Case| case.settings.m <= limit && case.hashes.len() <= limit;
+    Ok(cases::all(seed, count).filter(within).collect())
 }
 
 /// The cases on standard input. One outside the domain is an error: the Rust is not asked about it.
@@ -95,12 +104,11 @@ fn positions_of(case: &Case, seed: usize) -> String {
 }
 
 /// Table, count of cases, then each case and the Rust's outcome.
-fn answered(seed: u64, count: usize) -> Vec<u8> {
-    let cases: Vec<Case> = cases::all(seed, count).collect();
+fn answered(cases: &[Case]) -> Vec<u8> {
     let mut out = vec![];
     house::rising(&mut out, &log2_table(cases::table_entries(cases.iter())));
     house::number(&mut out, cases.len() as u64);
-    for case in &cases {
+    for case in cases {
         house::case(&mut out, case);
         house::outcome(&mut out, &outcome(case));
     }
@@ -144,18 +152,11 @@ fn run(words: &[String]) -> Result<Vec<u8>, String> {
             .iter()
             .map(|e| format!("{e}\n"))
             .collect(),
-        "cases" => {
-            let (seed, count) = (seed(&mut words)?, number(&mut words, "the count")?);
-            cases::all(seed, count).map(|case| text::case(&case)).collect()
-        }
-        "answered" => {
-            let (seed, count) = (seed(&mut words)?, number(&mut words, "the count")?);
-            return Ok(answered(seed, count));
-        }
+        "cases" => chosen(&mut words)?.iter().map(text::case).collect(),
+        "answered" => return Ok(answered(&chosen(&mut words)?)),
         "shapes" => {
-            let (seed, count) = (seed(&mut words)?, number(&mut words, "the count")?);
             let mut met = shapes::Met::default();
-            cases::all(seed, count).for_each(|case| met.note_case(&case));
+            chosen(&mut words)?.iter().for_each(|case| met.note_case(case));
             met.shapes.iter().map(|(shape, times)| format!("{times:7} {shape}\n")).collect()
         }
         "house" => {
