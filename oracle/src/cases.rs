@@ -8,6 +8,9 @@ use crate::{Case, Settings, bucket_count, default_weights, figures, named};
 /// The greatest weight.
 pub const TOP: i64 = 1 << 32;
 
+/// The most buckets that check 6 allows.
+const MOST_BUCKETS: usize = 67_108_865;
+
 /// log2_slice_len, ll and sb.
 pub type Setting = (u32, u32, u32);
 
@@ -169,6 +172,25 @@ pub fn family_of(seed: u64, k: usize, m: usize, bucket_size: f64, setting: Setti
     let settings = settings(setting, m, buckets);
     let weights = default_weights(settings.seed_bits);
     Case { settings, bump: true, weights, begins, hashes }
+}
+
+/// So many settings of any size in the domain, to ask about rule G alone.
+pub fn any_settings(seed: u64, count: usize) -> impl Iterator<Item = Settings> {
+    let mut random = Random(seed);
+    let all = all_settings();
+    (0..count).map(move |_| {
+        let setting = random.pick(&all);
+        let near = 1usize << random.from_to(0, 27);
+        let other = random.below(near);
+        let m = random.pick(&[near, near + 1, near - 1, other]).clamp(1, 1 << 27);
+        // The fewest buckets that check 7 allows, the most, or any number between.
+        let slices = figures(&settings(setting, m, MOST_BUCKETS)).slices;
+        let fewest = slices.div_ceil(4096);
+        let any = 1usize << random.from_to(0, 26);
+        let other = random.below(any);
+        let buckets = random.pick(&[fewest, MOST_BUCKETS, any, other]).max(fewest) | 1;
+        settings(setting, m, buckets)
+    })
 }
 
 /// The fixed seed of a run that is given none.

@@ -1,8 +1,32 @@
-//! Rules W and S of document 01, word by word and without any of the Rust's shortcuts: every
+//! Rules G, W and S of document 01, word by word and without any of the Rust's shortcuts: every
 //! candidate of a bucket is tried. It is slow. The tests hold it to the Rust, so that what the
 //! document says and what the Rust does are known to be the same, and the shapes are read off it.
 
-use crate::{Case, Figures, figures, log2_table};
+use crate::{Case, Figures, Settings, log2_table};
+
+/// Rule G's figures.
+pub fn figures(s: &Settings) -> Figures {
+    let slice_len = (s.m / 2 + 1).next_power_of_two().min(1 << s.log2_slice_len);
+    let slices = s.m + 1 - slice_len;
+    let scale = slice_len.ilog2().saturating_sub(s.seed_bits);
+    let layouts = 1 << s.log2_layouts;
+    let log2_stride = (s.log2_layouts + scale).min(slice_len.ilog2());
+    let per_bucket = slices.div_ceil(s.buckets);
+    let slots = 4 * (slice_len + 1) + 512 * per_bucket + 64 * (1 << log2_stride);
+    Figures {
+        slice_len,
+        slices,
+        scale,
+        layouts,
+        slices_per_bucket: ((slices as u128) << 64) / s.buckets as u128,
+        log2_stride,
+        ring_len: slice_len >> log2_stride,
+        rotations: (1 << s.seed_bits) / layouts,
+        per_bucket,
+        ring_slots: slots.next_power_of_two(),
+        table_entries: 95 + (per_bucket + 1) + slice_len,
+    }
+}
 
 /// One bucket's turn: which bucket, and what its search met.
 pub struct Turn {
@@ -40,8 +64,8 @@ pub fn weight(w: &[i64; 7], size: usize) -> i64 {
 }
 
 /// The position of a hash under a seed, by rule G.
-pub fn position(case: &Case, f: &Figures, hash: u64, seed: usize) -> usize {
-    let product = hash as u128 * case.settings.buckets as u128;
+pub fn position(s: &Settings, f: &Figures, hash: u64, seed: usize) -> usize {
+    let product = hash as u128 * s.buckets as u128;
     let slice = (hash as u128 * f.slices as u128) >> 64;
     let r = seed % f.layouts;
     let offset = (product as u64 as u128) >> (r * (64 / f.layouts));
@@ -49,16 +73,15 @@ pub fn position(case: &Case, f: &Figures, hash: u64, seed: usize) -> usize {
     (slice + (offset + shift) % f.slice_len as u128) as usize
 }
 
-fn first(case: &Case, f: &Figures, b: usize) -> usize {
-    let q = ((f.slices as u128) << 64) / case.settings.buckets as u128;
-    // No overflow: b < 2^27 and Q < 2^92.
-    ((b as u128 * q) >> 64) as usize
+/// first(b). No product overflows: b < 2^27 and Q < 2^92.
+pub fn first(f: &Figures, b: usize) -> usize {
+    ((b as u128 * f.slices_per_bucket) >> 64) as usize
 }
 
 /// Rule S for one bucket over the slots marked so far; its slots are marked.
 fn serve(case: &Case, f: &Figures, table: &[u32], marked: &mut [bool], b: usize) -> Turn {
     let keys = case.keys(b);
-    let origin = first(case, f, b);
+    let origin = first(f, b);
     let mut sorted = keys.to_vec();
     sorted.sort_unstable();
     let equal_hashes = sorted.windows(2).any(|w| w[0] == w[1]);
@@ -71,7 +94,8 @@ fn serve(case: &Case, f: &Figures, table: &[u32], marked: &mut [bool], b: usize)
                 continue;
             }
             let seed = if zero { f.ring_len * f.layouts } else { j * f.layouts + r };
-            let mut slots: Vec<usize> = keys.iter().map(|&h| position(case, f, h, seed)).collect();
+            let mut slots: Vec<usize> =
+                keys.iter().map(|&h| position(&case.settings, f, h, seed)).collect();
             if slots.iter().any(|&p| marked[p]) {
                 continue;
             }
@@ -90,7 +114,7 @@ fn serve(case: &Case, f: &Figures, table: &[u32], marked: &mut [bool], b: usize)
     let seed = best.map_or(0, |(_, seed)| seed);
     if seed != 0 {
         for &h in keys {
-            marked[position(case, f, h, seed)] = true;
+            marked[position(&case.settings, f, h, seed)] = true;
         }
     }
     Turn { bucket: b, seed, free, collides: free > 0 && cheapest.1, equal_hashes }

@@ -1,17 +1,23 @@
 //! The generator stays in the domain and meets every shape, and document 01 says what the Rust does.
 
 use oracle::cases;
+use oracle::random::Random;
 use oracle::shapes::Met;
 use oracle::{
-    Answer, Case, Outcome, chunks, domain, log2_table, naive, outcome, positions, sweep, text,
+    Answer, Case, Outcome, chunks, domain, figures, first_slices, log2_table, naive, outcome,
+    place_of, positions, sweep, text,
 };
 
 const SMALL: usize = 3000;
 
-/// All cases of the seed that ORACLE_SEED gives ('fixed' or none: the fixed one).
+/// The seed that ORACLE_SEED gives ('fixed' or none: the fixed one).
+fn seed() -> u64 {
+    let word = std::env::var("ORACLE_SEED").unwrap_or_default();
+    cases::seed(&word).expect("ORACLE_SEED is a number, or 'fixed'")
+}
+
 fn all_cases() -> impl Iterator<Item = Case> {
-    let seed = std::env::var("ORACLE_SEED").unwrap_or_default();
-    cases::all(cases::seed(&seed).expect("ORACLE_SEED is a number, or 'fixed'"), SMALL)
+    cases::all(seed(), SMALL)
 }
 
 #[test]
@@ -30,6 +36,33 @@ fn every_shape_and_setting_is_met() {
     assert_eq!(met.missing(), Vec::<&str>::new(), "shapes that no case has");
     for setting in cases::all_settings() {
         assert!(met.settings.contains_key(&setting), "no case has the setting {setting:?}");
+    }
+}
+
+#[test]
+fn rule_g_says_what_the_rust_does() {
+    let mut random = Random(seed());
+    let of_cases = all_cases().map(|case| case.settings);
+    for s in of_cases.chain(cases::any_settings(seed(), 20_000)) {
+        assert_eq!(domain::refused_settings(&s), None, "{s:?}");
+        let f = naive::figures(&s);
+        assert_eq!(f, figures(&s), "{s:?}");
+        let b = random.below(s.buckets);
+        for b in [0, b, s.buckets - 1] {
+            assert_eq!(vec![naive::first(&f, b)], first_slices(&s, b..b + 1), "{s:?}, bucket {b}");
+        }
+        let any = random.word();
+        for hash in [0, u64::MAX, any, domain::low(s.buckets, b), domain::high(s.buckets, b)] {
+            let seed = random.below(1 << s.seed_bits);
+            let position = naive::position(&s, &f, hash, seed);
+            assert_eq!(vec![position], positions(&s, &[(hash, seed)]), "{s:?}, {hash}, {seed}");
+            assert!(position < s.m, "{s:?}, {hash}, {seed}");
+            let (bucket, slice, _) = place_of(&s, hash);
+            assert!(
+                domain::low(s.buckets, bucket) <= hash && hash <= domain::high(s.buckets, bucket)
+            );
+            assert!(slice - naive::first(&f, bucket) <= f.per_bucket + 1, "{s:?}, {hash}");
+        }
     }
 }
 
