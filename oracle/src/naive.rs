@@ -137,8 +137,8 @@ pub fn turns(case: &Case) -> Vec<Turn> {
     turns
 }
 
-/// Whether a naive sweep of the case is quick enough for a test: it looks at few million positions.
+/// Whether a naive sweep of the case is quick enough for a test, by the positions it looks at.
 pub fn is_small(case: &Case) -> bool {
     let f = figures(&case.settings);
-    case.hashes.len() * f.layouts * f.ring_len <= 2_000_000
+    case.hashes.len() * f.layouts * f.ring_len <= 15_000_000
 }

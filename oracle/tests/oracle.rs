@@ -110,18 +110,30 @@ fn difference(naive: Outcome, rust: Outcome) -> Option<String> {
 }
 
 #[test]
-fn document_01_says_what_the_rust_does() {
-    let mut compared = 0;
-    for (i, case) in all_cases().enumerate().filter(|(_, case)| naive::is_small(case)) {
+fn rule_w_says_what_the_rust_does() {
+    for (i, case) in all_cases().enumerate() {
         let (by_document, by_rust) = (naive::order(&case), oracle::order(&case));
         let order = first_difference(&by_document, &by_rust);
         assert!(by_document == by_rust, "case {i}, {:?}: order: {order}", case.settings);
+    }
+}
+
+/// Whole sweeps. The largest cases, on which every candidate cannot be tried, are left out.
+#[test]
+fn rule_s_says_what_the_rust_does() {
+    let (mut compared, mut left_out) = (0, 0);
+    for (i, case) in all_cases().enumerate() {
+        if !naive::is_small(&case) {
+            left_out += 1;
+            continue;
+        }
         if let Some(found) = difference(naive_outcome(&case), outcome(&case)) {
             panic!("case {i}, {:?}: {found}", case.settings);
         }
         compared += 1;
     }
-    assert!(compared > SMALL, "only {compared} cases were small enough");
+    println!("{compared} sweeps compared, {left_out} too large to try every candidate");
+    assert!(left_out <= 10, "{left_out} cases were too large, and {compared} were not");
 }
 
 #[test]
