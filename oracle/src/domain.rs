@@ -1,5 +1,5 @@
-//! Document 01's checks 1 to 11, which say where the Rust may be asked at all: outside, it panics or
-//! goes wrong. (12 and 13 are about lent buffers, which the Rust does not have.)
+//! Document 01's checks 1 to 11, which say where the Rust may be asked at all: outside, it promises
+//! nothing. (12 and 13 are about lent buffers, which the Rust does not have.)
 
 use crate::{Case, Settings};
 
