@@ -2,21 +2,22 @@
 -- ceil(m/64) words of which that holds. Assumes nothing.
 use mathlib.Core.Path.{_≡_, refl, sym, ap, _∙_, subst}
 use mathlib.Core.Logic.{_⊎_, inl, inr}
-use mathlib.Core.Bool.{Bool, true, false, not}
+use mathlib.Core.Bool.{Bool, true, false, not, _||_}
 use mathlib.Core.List.{List, [], _∷_, map}
 use Prim.Native.Nat.{ℕ, zero, suc, _+_, _*_, _/_, _%_, _^_, _<_, _≤_}
 use native.Mathlib.Nat.{div-one, zero-div, pow-succ', div-add-mod, mod-lt}
 use native.Mathlib.Omega.{arith}
-use lib.Dec.{T, ltb, ltb→lt, nltb→le, lit<}
-use lib.ListN.{length, getD, List·getD-eq-default}
+use lib.Dec.{T, not-T, eqb, eqb→eq, ltb, ltb→lt, nltb→le, lit<}
+use lib.ListN.{length, getD, replicate, length-replicate, List·getD-eq-default}
 use lib.Pow.{pow-pos}
 use Rattle.words.specs.Bit.{bit}
 use Rattle.words.specs.BitLaws.{bit-zero, bit-suc, bit-of-zero}
+use Rattle.words.specs.Map as Map
 use Rattle.words.specs.Map.{Words, slot}
-use Rattle.words.specs.MapLaws.{slot-ext, slot-past}
+use Rattle.words.specs.MapLaws.{slot-ext, slot-past, slot-replicate, length-marked, marked-words, marked-same, marked-other}
 use Rattle.rules.specs.Lists.{below, elem, indicator, number}
 use Rattle.rules.specs.Sweep.{wordOf, bitmapOf}
-use Rattle.rules.proofs.Tests.{split}
+use Rattle.rules.proofs.Tests.{split, is-true, is-false, neq}
 use Rattle.rules.proofs.Counting.{ind-le, ind-true, ind-false, not-elem-count}
 use Rattle.rules.proofs.Ranges.{getD-below, length-below}
 
@@ -86,3 +87,38 @@ module _ (marked : List ℕ) where
   bitmap-is m ws e w h =
       slot-ext ws (bitmapOf m marked) (e ∙ sym (bitmap-length m)) w (bitmap-words m)
       (λ x k. let l : x < 64 * ((m + 63) / 64) = subst (λ (n : ℕ). x < 64 * n) e k in h x l ∙ sym (bitmap-slot m x l))
+
+-- ---- one slot more, and none
+
+pub bitmap-none : (m : ℕ) → bitmapOf m [] ≡ replicate ((m + 63) / 64) 0
+bitmap-none m =
+    sym (bitmap-is [] m (replicate ((m + 63) / 64) 0) (length-replicate ((m + 63) / 64) 0) (λ k. zeros ((m + 63) / 64) k) (λ x h. slot-replicate ((m + 63) / 64) x))
+  where
+    zeros : (n k : ℕ) → getD (replicate n 0) k 0 < 2 ^ 64
+    zeros zero k = lit< tt
+    zeros (suc n) zero = lit< tt
+    zeros (suc n) (suc k) = zeros n k
+
+-- the bitmap with slot x marked in it
+pub bitmap-mark : (m x : ℕ) (marked : List ℕ) → x < m → bitmapOf m (x ∷ marked) ≡ Map.marked (bitmapOf m marked) x
+bitmap-mark m x marked h =
+    sym (bitmap-is (x ∷ marked) m (Map.marked (bitmapOf m marked) x) (length-marked (bitmapOf m marked) x ∙ bitmap-length marked m)
+    (marked-words (bitmapOf m marked) x (bitmap-words marked m)) at)
+  where
+    at : (y : ℕ) → y < 64 * ((m + 63) / 64) → slot (Map.marked (bitmapOf m marked) x) y ≡ indicator (eqb y x || elem y marked)
+    at y k = go (split (eqb y x))
+      where
+        go : T (eqb y x) ⊎ T (not (eqb y x)) → slot (Map.marked (bitmapOf m marked) x) y ≡ indicator (eqb y x || elem y marked)
+        go (inl t) = rw (is-true (eqb y x) t) (rw (eqb→eq y x t) (marked-same (bitmapOf m marked) x (rw (bitmap-length marked m) (omega arith))))
+        go (inr t) = rw (is-false (eqb y x) t) (marked-other (bitmapOf m marked) x y (neq y x t) ∙ bitmap-slot marked m y k)
+
+-- only the set of marked slots matters
+pub bitmap-same : (m : ℕ) (xs ys : List ℕ) → ((x : ℕ) → elem x xs ≡ elem x ys) → bitmapOf m xs ≡ bitmapOf m ys
+bitmap-same m xs ys h = bitmap-is ys m (bitmapOf m xs) (bitmap-length xs m) (bitmap-words xs m) (λ x l. bitmap-slot xs m x l ∙ ap indicator (h x))
+
+-- a slot is free in the list exactly where its bit is 0
+pub slot-free : (m x : ℕ) (marked : List ℕ) → x < m → slot (bitmapOf m marked) x ≡ 0 → T (not (elem x marked))
+slot-free m x marked h e = not-T (elem x marked) (λ t. let a = bitmap-slot marked m x (omega arith) in let b = ind-true (elem x marked) t in omega arith)
+
+pub free-slot : (m x : ℕ) (marked : List ℕ) → x < m → T (not (elem x marked)) → slot (bitmapOf m marked) x ≡ 0
+free-slot m x marked h t = bitmap-slot marked m x (omega arith) ∙ ind-false (elem x marked) t

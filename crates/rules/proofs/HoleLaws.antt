@@ -13,19 +13,12 @@ use Rattle.words.specs.MapLaws.{slot-cases}
 use Rattle.rules.specs.Lists.{below, elem, count, indicator, keep, filter, allFree, distinct}
 use Rattle.rules.specs.Holes.{unmarked, holesOf}
 use Rattle.rules.specs.Sweep.{bitmapOf}
-use Rattle.rules.proofs.Tests.{split, is-true, is-false, and-left, and-right, or-left, or-right, neq, eq→eqb, neq→neqb, elem-mem, mem-elem, mem-filter, filter-mem}
-use Rattle.rules.proofs.Counting.{ind-true, ind-false, count-append, count-not-elem, not-elem-count, elem-count, count-below-in, length-from}
+use Rattle.rules.proofs.Tests.{split, is-true, is-false, and-left, and-right, and-both, or-left, or-right, neq, eq→eqb, neq→neqb, elem-mem, mem-elem, mem-filter, filter-mem}
+use Rattle.rules.proofs.Counting.{Once, Under, ind-true, ind-false, count-append, count-not-elem, not-elem-count, elem-count, count-below-in, length-from}
 use Rattle.rules.proofs.Ranges.{mem-below, below-mem}
 use Rattle.rules.proofs.TurnLaws.{Ascending, ascending-filter, ascending-from}
 use Rattle.rules.proofs.SetLaws.{filter-same}
 use Rattle.rules.proofs.BitmapLaws.{bitmap-all}
-
--- at most once each, and below m
-abbrev pub Once : List ℕ → Type 0
-Once xs = (x : ℕ) → count x xs ≤ 1
-
-abbrev pub Under : ℕ → List ℕ → Type 0
-Under m xs = (x : ℕ) → T (elem x xs) → x < m
 
 pub distinct-once : (xs : List ℕ) → T (distinct xs) → Once xs
 distinct-once [] t x = omega arith
@@ -42,6 +35,17 @@ free-of marked (y ∷ ys) t x e = go (split (eqb x y)) (free-of marked ys (and-r
     go : T (eqb x y) ⊎ T (not (eqb x y)) → (T (elem x ys) → T (not (elem x marked))) → T (not (elem x marked))
     go (inl q) ih = rw (eqb→eq x y q) (and-left (not (elem y marked)) (allFree marked ys) t)
     go (inr n) ih = ih (rw (is-false (eqb x y) n) at e)
+
+pub free-by : (marked xs : List ℕ) → ((x : ℕ) → T (elem x xs) → T (not (elem x marked))) → T (allFree marked xs)
+free-by marked [] h = tt
+free-by marked (y ∷ ys) h =
+    and-both (not (elem y marked)) (allFree marked ys) (h y (or-left (eqb y y) (elem y ys) (eqb-refl y))) (free-by marked ys (λ x t. h x (or-right (eqb x y) (elem x ys) t)))
+
+pub once-distinct : (xs : List ℕ) → Once xs → T (distinct xs)
+once-distinct [] h = tt
+once-distinct (y ∷ ys) h =
+    let one = ind-true (eqb y y) (eqb-refl y) in
+    and-both (not (elem y ys)) (distinct ys) (count-not-elem y ys (omega (arith, h y))) (once-distinct ys (λ x. omega (arith, h x)))
 
 pub once-append : (xs marked : List ℕ) → T (allFree marked xs) → Once xs → Once marked → Once (xs ++ marked)
 once-append xs marked t hx hm x = rw (count-append x xs marked) (go (split (elem x xs)))

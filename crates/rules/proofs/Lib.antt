@@ -28,3 +28,5 @@ pub mod Theorems
 pub mod KeyLaws
 pub mod Sheets
 pub mod Witness
+pub mod WeightLaws
+pub mod LargestLaws

@@ -19,7 +19,7 @@ use Rattle.rules.specs.Sweep.{takes, given, marks, seedIn, finalSeeds, f
 use Rattle.rules.specs.Holes.{slotBy, lookedUp, foundSlots, holesOf}
 use Rattle.rules.specs.Good.{Grouped, Sound}
 use Rattle.rules.proofs.Tests.{split, is-true, is-false, and-left, and-right, eq→eqb, neq→neqb, elem-mem, mem-elem, or-left, or-right}
-use Rattle.rules.proofs.Counting.{ind-true, ind-false, count-append, count-filter-in, count-filter-out, count-below-in, count-elem, elem-count, not-elem-count}
+use Rattle.rules.proofs.Counting.{Once, Under, ind-true, ind-false, count-append, count-filter-in, count-filter-out, count-below-in, count-elem, elem-count, not-elem-count}
 use Rattle.rules.proofs.Ranges.{below-elem}
 use Rattle.rules.proofs.Sums.{Same, total-congr, total-same, total-filter, same-length, count-concat, length-concat, concat-concat}
 use Rattle.rules.proofs.GeometryLaws.{position-lt}
@@ -27,7 +27,7 @@ use Rattle.rules.proofs.TurnLaws.{order-once, order-empty, order-outsid
 use Rattle.rules.proofs.SeedLaws.{Cheapest, fits-free, fits-distinct, seed-least}
 use Rattle.rules.proofs.GroupLaws.{keys-all, keys-length, key-small}
 use Rattle.rules.proofs.SweepLaws.{seeds-at, seed-absent}
-use Rattle.rules.proofs.HoleLaws.{Once, Under, distinct-once, once-append, elem-append, holes-length}
+use Rattle.rules.proofs.HoleLaws.{distinct-once, once-append, elem-append, holes-length}
 use Rattle.rules.proofs.BitmapLaws.{bitmap-all}
 
 -- turns in which no bucket stands twice

@@ -89,6 +89,19 @@ module _ (tie : Tie) (i : Input) (lo hi : ℕ) where
   pub order-outside : (b : ℕ) → (b < lo) ⊎ (hi ≤ b) → count b (order tie i lo hi) ≡ 0
   order-outside b h = order-count b ∙ nonempty-outside i lo hi b h
 
+  -- what stands in the order is a bucket of the range with keys
+  pub order-keys : (b : ℕ) → T (elem b (order tie i lo hi)) → (lo ≤ b) × (b < hi) × T (hasKeys i b)
+  order-keys b t = go (split (ltb b lo)) (split (ltb b hi)) (split (hasKeys i b))
+    where
+      here : 1 ≤ count b (order tie i lo hi)
+      here = elem-count b (order tie i lo hi) t
+
+      go : T (ltb b lo) ⊎ T (not (ltb b lo)) → T (ltb b hi) ⊎ T (not (ltb b hi)) → T (hasKeys i b) ⊎ T (not (hasKeys i b)) → (lo ≤ b) × (b < hi) × T (hasKeys i b)
+      go (inl l) h k = absurd (let z = order-outside b (inl (ltb→lt b lo l)) in let y = here in omega arith)
+      go (inr l) (inl h) (inl k) = (nltb→le b lo l, ltb→lt b hi h, k)
+      go (inr l) (inl h) (inr k) = absurd (let z = order-empty b k in let y = here in omega arith)
+      go (inr l) (inr h) k = absurd (let z = order-outside b (inr (nltb→le b hi h)) in let y = here in omega arith)
+
   pub order-length : length (order tie i lo hi) ≡ length (nonempty i lo hi)
   unfolding order
   order-length = turns-length (goesFirst tie i) (length (nonempty i lo hi)) (nonempty i lo hi) (le-refl (length (nonempty i lo hi)))
