@@ -1,9 +1,9 @@
 -- The complete answers by cases: a number that applies refuses and keeps each buffer; without one the sweep ran, and it stopped or not. Assumes nothing.
-use mathlib.Core.Path.{_≡_, refl, sym, ap, _∙_}
+use mathlib.Core.Path.{_≡_, refl}
 use mathlib.Core.Logic.{_≢_}
 use mathlib.Core.Bool.{Bool, true, false}
 use mathlib.Core.List.{List, [], _∷_, _++_}
-use mathlib.Core.Option.{Option, none, some}
+use mathlib.Core.Option.{none, some}
 use Prim.Native.Nat.{ℕ, zero, suc}
 use lib.ListN.{length, drop, replicate}
 use Rattle.rules.specs.Order.{Input, Tie}

@@ -1,15 +1,14 @@
 -- Rule H's bitmap: slot x of it is 1 exactly where x is marked, and the bits from m on are 0 where no slot from m on is marked. It is the one list of
 -- ceil(m/64) words of which that holds. Assumes nothing.
-use mathlib.Core.Path.{_≡_, refl, sym, ap, _∙_, subst}
+use mathlib.Core.Path.{_≡_, sym, ap, _∙_, subst}
 use mathlib.Core.Logic.{_⊎_, inl, inr}
 use mathlib.Core.Bool.{Bool, true, false, not, _||_}
 use mathlib.Core.List.{List, [], _∷_, map}
 use Prim.Native.Nat.{ℕ, zero, suc, _+_, _*_, _/_, _%_, _^_, _<_, _≤_}
-use native.Mathlib.Nat.{div-one, zero-div, pow-succ', div-add-mod, mod-lt}
+use native.Mathlib.Nat.{pow-succ', div-add-mod, mod-lt}
 use native.Mathlib.Omega.{arith}
 use lib.Dec.{T, not-T, eqb, eqb→eq, ltb, ltb→lt, nltb→le, lit<}
 use lib.ListN.{length, getD, replicate, length-replicate, List·getD-eq-default}
-use lib.Pow.{pow-pos}
 use Rattle.words.specs.Bit.{bit}
 use Rattle.words.specs.BitLaws.{bit-zero, bit-suc, bit-of-zero}
 use Rattle.words.specs.Map as Map
@@ -18,7 +17,7 @@ use Rattle.words.specs.MapLaws.{slot-ext, slot-past, slot-replicate, length-mar
 use Rattle.rules.specs.Lists.{below, elem, indicator, number}
 use Rattle.rules.specs.Sweep.{wordOf, bitmapOf}
 use Rattle.rules.proofs.Tests.{split, is-true, is-false, neq}
-use Rattle.rules.proofs.Counting.{ind-le, ind-true, ind-false, not-elem-count}
+use Rattle.rules.proofs.Counting.{ind-le, ind-true, ind-false}
 use Rattle.rules.proofs.Ranges.{getD-below, length-below}
 
 half : (b : Bool) (n : ℕ) → (indicator b + 2 * n) / 2 ≡ n

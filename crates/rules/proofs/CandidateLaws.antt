@@ -2,14 +2,14 @@
 -- seed. The seed n·L stands for (0,0), which 0 would be; it is below 2^sb exactly where n < R, else (0,0) is barred. Assumes nothing.
 use mathlib.Core.Path.{_≡_, refl, sym, ap, _∙_, subst, fun-ext}
 use mathlib.Core.Logic.{_⊎_, inl, inr, _≢_}
-use mathlib.Core.Bool.{Bool, true, false, not, cond, _&&_}
+use mathlib.Core.Bool.{not, _&&_}
 use mathlib.Core.List.{List, [], _∷_, _++_, map, List·Memᴰ, List·Memᴰ·head, List·Memᴰ·tail, List·Memᴰ·cases-cons, List·Memᴰ·not-nil, List·Memᴰ·append-cases, Memᴰ·append-left, Memᴰ·append-right, Memᴰ·map, Memᴰ·of-map}
-use Prim.Native.Nat.{ℕ, zero, suc, _+_, _*_, _/_, _%_, _^_, _<_, _≤_}
+use Prim.Native.Nat.{ℕ, _+_, _*_, _/_, _%_, _^_, _<_, _≤_}
 use native.Mathlib.Nat.{mod-lt, div-lt-iff-lt-mul, mod-eq-of-lt, div-add-mod', mul-pos, mul-le-mul-right, mul-lt-mul-of-pos-right}
 use native.Mathlib.Omega.{arith}
 use lib.Arith.{digits-lt, digits-div, digits-mod, lt-of-le-ne}
 use lib.Dec.{T, T-not, not-T, eqb, eqb→eq}
-use Rattle.rules.specs.Lists.{below, filter, allFree, distinct}
+use Rattle.rules.specs.Lists.{below}
 use Rattle.rules.specs.Geometry.{layouts, ringLen, rotations, sliceOf, stride, position}
 use Rattle.rules.specs.Ring.{columnOf, rowOf}
 use Rattle.rules.specs.Order.{Input, keysOf}

@@ -1,17 +1,16 @@
 -- How often a number stands in a list. Assumes nothing.
-use mathlib.Core.Path.{_≡_, refl, sym, ap, _∙_, subst}
-use mathlib.Core.Logic.{_⊎_, inl, inr, _≢_}
-use mathlib.Core.Bool.{Bool, true, false, not, cond, _&&_, _||_}
-use mathlib.Core.List.{List, [], _∷_, _++_, List·Memᴰ, List·Memᴰ·head, List·Memᴰ·tail}
-use Prim.Native.Nat.{ℕ, zero, suc, _+_, _*_, _<_, _≤_}
+use mathlib.Core.Path.{_≡_, refl, sym, ap}
+use mathlib.Core.Logic.{_⊎_, inl, inr}
+use mathlib.Core.Bool.{Bool, true, false, not, cond}
+use mathlib.Core.List.{List, [], _∷_, _++_}
+use Prim.Native.Nat.{ℕ, zero, suc, _+_, _<_, _≤_}
 use native.Mathlib.Nat.{zero-add, le-of-suc-le-suc, not-suc-le-zero}
 use native.Mathlib.Omega.{arith}
-use lib.Dec.{T, T-not, not-T, eqb, ltb, leb, eqb→eq, eqb-refl, ltb→lt, nltb→le, leb→le, nleb→lt, lt→ltb, le→leb}
-use lib.Arith.{le→nltb, lt→nleb}
+use lib.Dec.{T, T-not, not-T, eqb, eqb→eq, eqb-refl}
 use lib.ListN.{length, getD, take, drop}
 use lib.Seq.{split-at}
 use Rattle.rules.specs.Lists.{countFrom, below, elem, count, remove, indicator, keep, filter}
-use Rattle.rules.proofs.Tests.{split, is-true, is-false, of-true, of-false, or-cases, or-left, or-right, not-or-left, not-or-right, not-or, and-both, not-and-left, not-and-right, neq, eq→eqb, neq→neqb, mem-filter, elem-mem}
+use Rattle.rules.proofs.Tests.{split, is-true, is-false, or-cases, or-left, or-right, not-or-left, not-or-right, neq, neq→neqb, mem-filter, elem-mem}
 
 pub ind-true : (b : Bool) → T b → indicator b ≡ 1
 ind-true true t = refl

@@ -1,12 +1,12 @@
 -- One integer for rule W: the priority times 1024 and the complement of b mod 1024 below it. The low part is less than 1024, so the greater key is the
 -- greater priority or, at the same priority, the smaller b mod 1024. And of two buckets of one size the lower goes first. Assumes nothing.
-use mathlib.Core.Path.{_≡_, refl, sym, ap, _∙_}
+use mathlib.Core.Path.{_≡_}
 use mathlib.Core.Logic.{_⊎_, inl, inr}
 use mathlib.Core.Bool.{Bool, not, _&&_, _||_}
-use Prim.Native.Nat.{ℕ, _+_, _-_, _*_, _%_, _<_, _≤_}
+use Prim.Native.Nat.{ℕ, _+_, _-_, _*_, _%_, _<_}
 use native.Mathlib.Omega.{arith}
-use lib.Dec.{T, ltb, ltb→lt, nltb→le, lt→ltb}
-use lib.IntN.{ℤ, pos, _+ℤ_, _-ℤ_, _*ℤ_}
+use lib.Dec.{T, ltb, ltb→lt, lt→ltb}
+use lib.IntN.{ℤ, pos, _+ℤ_, _*ℤ_}
 use lib.Signed.{ltZ}
 use Rattle.integers.specs.Ints.{up, dn, add-is, sub-is, mul-up, mul-dn, lt-yes, lt-no, yes-lt}
 use Rattle.rules.specs.Order.{Input, Tie, byLowBits, sizeOf, weight, priority, goesFirst}

@@ -1,6 +1,6 @@
 -- The largest bucket size is the least number that no size exceeds. Assumes nothing.
-use Prim.Native.Nat.{ℕ, _<_, _≤_, max}
-use mathlib.Core.Logic.{_⊎_, inl, inr}
+use Prim.Native.Nat.{ℕ, _<_, _≤_}
+use mathlib.Core.Logic.{inl, inr}
 use mathlib.Core.List.{List, [], _∷_}
 use native.Mathlib.Omega.{arith}
 use lib.Dec.{T, eqb, eqb→eq, eqb-refl}

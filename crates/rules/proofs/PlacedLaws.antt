@@ -2,29 +2,29 @@
 -- marked ones, each once and below m; holes and placed keys add up to m. It holds because a bucket takes only free, pairwise different slots, a hash is
 -- looked up with the seed of its own bucket, and a bucket that had no turn has the seed 0. Assumes nothing.
 use mathlib.Core.Path.{_≡_, refl, sym, ap, _∙_, subst}
-use mathlib.Core.Logic.{_⊎_, inl, inr, _≢_}
-use mathlib.Core.Bool.{Bool, true, false, not, cond, _&&_}
+use mathlib.Core.Logic.{_⊎_, inl, inr}
+use mathlib.Core.Bool.{Bool, not, cond}
 use mathlib.Core.List.{List, [], _∷_, _++_, map, Memᴰ·of-map}
-use Prim.Native.Nat.{ℕ, zero, suc, _+_, _^_, _<_, _≤_}
+use Prim.Native.Nat.{ℕ, zero, suc, _+_, _<_, _≤_}
 use native.Mathlib.Nat.{add-zero, suc-ne-zero}
 use native.Mathlib.Omega.{arith}
 use lib.Dec.{T, eqb, ltb, eqb-refl, eqb·suc-zero, ltb→lt, nltb→le, not-T}
 use lib.ListN.{length, getD, length-map}
 use Rattle.words.specs.Map.{Words, slot}
-use Rattle.rules.specs.Lists.{below, filter, elem, count, indicator, concatMap, total, allFree, distinct}
+use Rattle.rules.specs.Lists.{below, filter, elem, count, indicator, concatMap, total}
 use Rattle.rules.specs.Geometry.{position, bucketOf}
 use Rattle.rules.specs.Order.{Input, Tie, order, keysOf, sizeOf, hasKeys}
 use Rattle.rules.specs.Seed.{slotsOf, fits, seedFor}
 use Rattle.rules.specs.Sweep.{takes, given, marks, seedIn, finalSeeds, finalMarks, finalBitmap}
 use Rattle.rules.specs.Holes.{slotBy, lookedUp, foundSlots, holesOf}
 use Rattle.rules.specs.Good.{Grouped, Sound}
-use Rattle.rules.proofs.Tests.{split, is-true, is-false, and-left, and-right, eq→eqb, neq→neqb, elem-mem, mem-elem, or-left, or-right}
+use Rattle.rules.proofs.Tests.{split, is-true, is-false, eq→eqb, neq→neqb, elem-mem, mem-elem, or-left, or-right}
 use Rattle.rules.proofs.Counting.{Once, Under, ind-true, ind-false, count-append, count-filter-in, count-filter-out, count-below-in, count-elem, elem-count, not-elem-count}
 use Rattle.rules.proofs.Ranges.{below-elem}
-use Rattle.rules.proofs.Sums.{Same, total-congr, total-same, total-filter, same-length, count-concat, length-concat, concat-concat}
+use Rattle.rules.proofs.Sums.{Same, total-congr, total-same, total-filter, same-length, count-concat, concat-concat}
 use Rattle.rules.proofs.GeometryLaws.{position-lt}
 use Rattle.rules.proofs.TurnLaws.{order-once, order-empty, order-outside}
-use Rattle.rules.proofs.SeedLaws.{Cheapest, fits-free, fits-distinct, seed-least}
+use Rattle.rules.proofs.SeedLaws.{fits-free, fits-distinct, seed-least}
 use Rattle.rules.proofs.GroupLaws.{keys-all, keys-length, key-small}
 use Rattle.rules.proofs.SweepLaws.{seeds-at, seed-absent}
 use Rattle.rules.proofs.HoleLaws.{distinct-once, once-append, elem-append, holes-length}

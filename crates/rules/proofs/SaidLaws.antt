@@ -1,9 +1,8 @@
 -- What a call says fixes its answer: each `said..` can be undone, so two answers that say the same are the same. Assumes nothing.
 use mathlib.Core.Path.{_≡_, refl, sym, ap, _∙_}
 use mathlib.Core.List.{List, [], _∷_}
-use Prim.Native.Nat.{ℕ, zero, suc}
+use Prim.Native.Nat.{ℕ, zero}
 use lib.ListN.{getD}
-use Rattle.rules.specs.declared.Counts.{Counts}
 use Rattle.rules.specs.declared.Named.{Named}
 use Rattle.rules.specs.declared.Named.the-variants.{Bucket, NoBucket}
 use Rattle.rules.specs.declared.Outcome.{Outcome}

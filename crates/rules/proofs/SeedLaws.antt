@@ -2,9 +2,9 @@
 -- exactly where none fits. The first is one alone, so a search that names it, or that prices a short list which has it, names the seed. Assumes nothing.
 use mathlib.Core.Path.{_≡_, refl, sym, ap, _∙_, subst}
 use mathlib.Core.Logic.{_⊎_, inl, inr, _≢_}
-use mathlib.Core.Bool.{Bool, not, _&&_, _||_}
+use mathlib.Core.Bool.{not, _&&_}
 use mathlib.Core.List.{List, [], _∷_, List·Memᴰ, List·Memᴰ·not-nil}
-use Prim.Native.Nat.{ℕ, _*_, _^_, _<_, _≤_}
+use Prim.Native.Nat.{ℕ, _^_, _<_, _≤_}
 use native.Mathlib.Omega.{arith}
 use lib.Dec.{T, T-not, not-T, ltb, nltb→le}
 use lib.Pow.{pow-pos}
@@ -12,7 +12,7 @@ use Rattle.rules.specs.Lists.{best, smaller, thenBy, allFree, distinct}
 use Rattle.rules.specs.Order.{Input}
 use Rattle.rules.specs.Seed.{Candidate, candidates, seedOf, slotsOf, fits, cost, cheaper, candidateFits, fitting, seedOfLeast, seedFor}
 use Rattle.rules.proofs.Tests.{and-left, and-right, and-both, not-or-left, mem-filter, filter-mem}
-use Rattle.rules.proofs.Orders.{Strict, best-mem, best-top, best-is, strict-then, strict-smaller, then-level, smaller-level}
+use Rattle.rules.proofs.Orders.{Strict, best-mem, best-top, strict-then, strict-smaller, then-level, smaller-level}
 use Rattle.rules.proofs.CandidateLaws.{candidateOf, candidate-mem, fits-candidate, cost-candidate, seed-range}
 
 -- ---- a seed that fits

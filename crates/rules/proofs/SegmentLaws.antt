@@ -1,20 +1,19 @@
 -- The first free rotation of each segment suffices. Between wrap points a rotation moves every key of the bucket up, and the table never falls, so a
 -- later rotation of a segment costs no less than an earlier one, and at the same cost (r, j) is for the earlier. Assumes nothing.
-use mathlib.Core.Path.{_≡_, refl, sym, ap, _∙_, subst}
+use mathlib.Core.Path.{_≡_, sym, ap, _∙_}
 use mathlib.Core.Logic.{_⊎_, inl, inr}
-use mathlib.Core.Bool.{Bool, not, _&&_, _||_}
+use mathlib.Core.Bool.{not, _&&_, _||_}
 use mathlib.Core.List.{List, [], _∷_, map}
-use Prim.Native.Nat.{ℕ, zero, suc, _+_, _-_, _*_, _/_, _%_, _^_, _<_, _≤_}
+use Prim.Native.Nat.{ℕ, suc, _+_, _-_, _*_, _/_, _%_, _^_, _<_, _≤_}
 use native.Mathlib.Nat.{le-refl, le-trans, div-lt-iff-lt-mul}
 use native.Mathlib.Omega.{arith}
 use lib.Arith.{le→nltb}
 use lib.Dec.{T, eqb, ltb, eqb-refl, lit≤}
-use lib.ListN.{getD}
 use lib.Pow.{pow-pos}
 use Rattle.integers.specs.Division.{mod-cases}
 use Rattle.rules.specs.declared.Settings.{Settings}
 use Rattle.rules.specs.Lists.{elem, sum}
-use Rattle.rules.specs.Geometry.{layouts, ringLen, stride, position, first, entries, bucketOf}
+use Rattle.rules.specs.Geometry.{layouts, ringLen, stride, position, first, entries}
 use Rattle.rules.specs.Ring.{ringOffset, rowOf}
 use Rattle.rules.specs.Order.{Input, keysOf}
 use Rattle.rules.specs.Seed.{Candidate, seedOf, slotsOf, price, cost, cheaper}

@@ -1,8 +1,7 @@
 -- The sheets P1 to P12 of document 01, as one table with one proof by computation. Assumes nothing.
 use mathlib.Core.Bool.{Bool, true, false, _&&_}
 use mathlib.Core.List.{List, [], _∷_, _++_}
-use mathlib.Core.Option.{Option, none, some}
-use Prim.Native.Nat.{ℕ, zero, suc, _+_, _-_, _*_, _^_}
+use Prim.Native.Nat.{ℕ, _+_, _-_, _*_, _^_}
 use lib.Dec.{T, eqb, ltb}
 use lib.IntN as Int
 use lib.IntN.{ℤ}

@@ -1,14 +1,13 @@
 -- The counts of the summary: the placed keys are the slots found, placed and bumped keys are all keys, and the zero buckets are those that are bumped or
 -- have no keys. Assumes nothing.
-use mathlib.Core.Path.{_≡_, refl, sym, ap, _∙_}
-use mathlib.Core.Logic.{_⊎_, inl, inr}
+use mathlib.Core.Path.{_≡_, sym, ap, _∙_}
 use mathlib.Core.Bool.{Bool, true, false, cond}
-use mathlib.Core.List.{List, []}
-use Prim.Native.Nat.{ℕ, _+_, _<_, _≤_}
+use mathlib.Core.List.{List}
+use Prim.Native.Nat.{ℕ, _+_, _≤_}
 use native.Mathlib.Omega.{arith}
-use lib.Dec.{T, eqb}
+use lib.Dec.{eqb}
 use lib.ListN.{length, getD}
-use Rattle.rules.specs.Lists.{below, elem, indicator, concatMap, total}
+use Rattle.rules.specs.Lists.{below, concatMap}
 use Rattle.rules.specs.Order.{Input, keysOf, sizeOf}
 use Rattle.rules.specs.Holes.{lookedUp, foundSlots}
 use Rattle.rules.specs.Answers.{placedKeys, bumpedKeys, zeroBucket, countsOf}

@@ -2,19 +2,19 @@
 -- before it, and a bucket that had no turn has 0. Turns can be taken part by part. Assumes nothing.
 use mathlib.Core.Path.{_≡_, refl, sym, ap, _∙_, subst}
 use mathlib.Core.Logic.{_⊎_, inl, inr, _≢_}
-use mathlib.Core.Bool.{Bool, true, false, not, cond}
-use mathlib.Core.List.{List, [], _∷_, _++_, map}
-use Prim.Native.Nat.{ℕ, zero, suc, _+_, _<_, _≤_}
+use mathlib.Core.Bool.{not, cond}
+use mathlib.Core.List.{List, [], _∷_, _++_}
+use Prim.Native.Nat.{ℕ, _<_}
 use native.Mathlib.Omega.{arith}
 use lib.Dec.{T, eqb, eqb→eq, eqb-refl}
 use lib.ListN.{length, getD, set, length-set}
 use lib.Seq.{ext-getD, getD-set-same, getD-set-other}
-use Rattle.rules.specs.Lists.{below, elem, count, indicator}
+use Rattle.rules.specs.Lists.{elem, count}
 use Rattle.rules.specs.Order.{Input}
 use Rattle.rules.specs.Seed.{seedFor}
 use Rattle.rules.specs.Sweep.{Given, takes, given, marks, seedIn, finalSeeds, finalMarks}
 use Rattle.rules.proofs.Tests.{split, is-true, is-false, neq, eq→eqb, neq→neqb}
-use Rattle.rules.proofs.Counting.{ind-true, ind-false, count-append, count-not-elem, not-elem-count}
+use Rattle.rules.proofs.Counting.{ind-true, ind-false}
 use Rattle.rules.proofs.Ranges.{getD-below, length-below}
 
 -- a list up to and after the first b

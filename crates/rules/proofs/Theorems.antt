@@ -1,18 +1,18 @@
 -- What is promised of a sweep that 1 to 13 do not refuse, in one place. `swept`: the order, each bucket at its turn, and where the keys are. `stopped`:
 -- the same of a sweep refused by 14, up to and with the bucket named, before the clearing. Each part is a law of the file of its subject; here they are
 -- put together with no hypothesis but "not refused" and that the hashes are 64-bit numbers. Assumes nothing.
-use mathlib.Core.Path.{_≡_, refl, sym, ap, _∙_, subst}
+use mathlib.Core.Path.{_≡_, sym, ap, _∙_, subst}
 use mathlib.Core.Logic.{_⊎_, inl, inr, _≢_}
-use mathlib.Core.Bool.{Bool, true, false, not, _&&_}
+use mathlib.Core.Bool.{false, not}
 use mathlib.Core.List.{List, [], _∷_, _++_, map, append-assoc}
-use mathlib.Core.Option.{Option, none, some}
-use Prim.Native.Nat.{ℕ, zero, suc, _+_, _-_, _^_, _<_, _≤_}
+use mathlib.Core.Option.{some}
+use Prim.Native.Nat.{ℕ, _+_, _-_, _^_, _<_, _≤_}
 use native.Mathlib.Nat.{le-trans}
 use native.Mathlib.Omega.{arith}
 use lib.Dec.{T, not-T, eqb, eqb→eq, lit≤}
 use lib.ListN.{length, getD}
 use Rattle.words.specs.Map.{Words}
-use Rattle.rules.specs.Lists.{elem, count, indicator, allFree, distinct}
+use Rattle.rules.specs.Lists.{elem, count, indicator}
 use Rattle.rules.specs.Geometry.{position, first, ringLen, rotations}
 use Rattle.rules.specs.Order.{Input, Tie, byLowBits, goesFirst, hasKeys, nonempty, order, keysOf}
 use Rattle.rules.specs.Seed.{fits, cost, seedFor, slotsOf}
@@ -20,13 +20,13 @@ use Rattle.rules.specs.Sweep.{finalSeeds, finalMarks, failsAt}
 use Rattle.rules.specs.Numbers.{Lent, firstOf, sweepLines}
 use Rattle.rules.specs.Answers.{sweepTurns, stopsAt}
 use Rattle.rules.specs.Good.{Sound}
-use Rattle.rules.proofs.Tests.{split, and-right, eq→eqb}
+use Rattle.rules.proofs.Tests.{split, eq→eqb}
 use Rattle.rules.proofs.Counting.{ind-true, ind-false, count-elem, not-elem-count}
 use Rattle.rules.proofs.Sums.{Same}
 use Rattle.rules.proofs.GeometryLaws.{position-lt, ring-le, entry-lt}
-use Rattle.rules.proofs.TurnLaws.{Next, order-count, order-once, order-empty, order-outside, order-next}
+use Rattle.rules.proofs.TurnLaws.{order-count, order-once, order-empty}
 use Rattle.rules.proofs.TurnUnique.{Follows, Apart, order-follows, order-only, apart-low}
-use Rattle.rules.proofs.SeedLaws.{Cheapest, fits-distinct, seed-least, seed-none, none-seed}
+use Rattle.rules.proofs.SeedLaws.{fits-distinct, seed-least, seed-none, none-seed}
 use Rattle.rules.proofs.SweepLaws.{Turn, turn-of, no-turn}
 use Rattle.rules.proofs.HoleLaws.{distinct-once}
 use Rattle.rules.proofs.PlacedLaws.{Proper, Placement, placement, order-proper, proper-before}

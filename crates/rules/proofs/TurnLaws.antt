@@ -1,16 +1,16 @@
 -- Rule W: the order of a range has each of its nonempty buckets once and nothing else, because a turn takes one of the untaken away; and at each
 -- turn the bucket taken is the one that the rule names. Assumes nothing.
-use mathlib.Core.Path.{_≡_, refl, sym, ap, _∙_, subst}
-use mathlib.Core.Logic.{_⊎_, inl, inr, _≢_}
-use mathlib.Core.Bool.{Bool, true, false, not, cond, _&&_, _||_}
-use mathlib.Core.List.{List, [], _∷_, _++_, List·Memᴰ, List·Memᴰ·head, List·Memᴰ·tail, List·Memᴰ·cases-cons, head-eq-of-cons-eq, tail-eq-of-cons-eq, nil≢cons}
-use Prim.Native.Nat.{ℕ, zero, suc, _+_, _-_, _*_, _<_, _≤_}
-use native.Mathlib.Nat.{le-refl, le-of-suc-le-suc, not-suc-le-zero}
+use mathlib.Core.Path.{_≡_, refl, ap, _∙_, subst}
+use mathlib.Core.Logic.{_⊎_, inl, inr}
+use mathlib.Core.Bool.{Bool, true, false, not, cond}
+use mathlib.Core.List.{List, [], _∷_, _++_, List·Memᴰ, List·Memᴰ·head, List·Memᴰ·tail, List·Memᴰ·cases-cons, head-eq-of-cons-eq, tail-eq-of-cons-eq}
+use Prim.Native.Nat.{ℕ, zero, suc, _+_, _-_, _<_, _≤_}
+use native.Mathlib.Nat.{le-refl, not-suc-le-zero}
 use native.Mathlib.Omega.{arith}
-use lib.Dec.{T, lt→ltb, ltb→lt, nltb→le, T-not, eqb, eqb→eq, eqb-refl, ltb, leb}
+use lib.Dec.{T, lt→ltb, ltb→lt, nltb→le, eqb, eqb→eq, eqb-refl, ltb}
 use lib.ListN.{length, length-append}
-use Rattle.rules.specs.Lists.{countFrom, between, elem, count, remove, indicator, keep, filter, best}
-use Rattle.rules.specs.Order.{Input, Tie, priority, sizeOf, goesFirst, hasKeys, inWindow, nonempty, turn, turns, order}
+use Rattle.rules.specs.Lists.{countFrom, between, elem, count, remove, keep, filter, best}
+use Rattle.rules.specs.Order.{Input, Tie, priority, goesFirst, hasKeys, inWindow, nonempty, turn, turns, order}
 use Rattle.rules.proofs.Tests.{split, is-true, is-false, or-cases, or-left, or-right, mem-elem, elem-mem, mem-filter, filter-mem}
 use Rattle.rules.proofs.Orders.{Strict, best-mem, best-top, strict-then, strict-smaller, strict-greater}
 use Rattle.rules.proofs.Counting.{ind-true, elem-count, count-elem, count-remove, length-remove, count-filter-in, count-filter-out, count-from-in, count-from-low, count-from-high}

@@ -1,17 +1,16 @@
 -- Rule W has one answer: a list that follows the rule is the order, because no two buckets of one window are level. Assumes nothing.
-use mathlib.Core.Path.{_≡_, refl, sym, ap, _∙_, subst}
-use mathlib.Core.Logic.{_⊎_, inl, inr, _≢_}
-use mathlib.Core.Bool.{Bool, true, false, not}
-use mathlib.Core.List.{List, [], _∷_, _++_, List·Memᴰ, List·Memᴰ·head, List·Memᴰ·tail, List·Memᴰ·cases-cons, cons≢nil}
-use Prim.Native.Nat.{ℕ, zero, suc, _+_, _*_, _%_, _<_, _≤_}
-use native.Mathlib.Nat.{le-refl, le-of-suc-le-suc, not-suc-le-zero}
-use native.Mathlib.Decide.{ℕ-discrete}
+use mathlib.Core.Path.{_≡_, refl, ap, _∙_, subst}
+use mathlib.Core.Logic.{inl, inr}
+use mathlib.Core.Bool.{Bool, not}
+use mathlib.Core.List.{List, [], _∷_, List·Memᴰ, List·Memᴰ·head, List·Memᴰ·tail, List·Memᴰ·cases-cons, cons≢nil}
+use Prim.Native.Nat.{ℕ, zero, suc, _+_, _<_, _≤_}
+use native.Mathlib.Nat.{le-refl, not-suc-le-zero}
 use native.Mathlib.Omega.{arith}
-use lib.Dec.{T, lt→ltb, ltb→lt, eqb, eqb→eq, eqb-refl, ltb}
+use lib.Dec.{T, lt→ltb, ltb→lt, eqb, eqb→eq, eqb-refl}
 use lib.ListN.{length}
-use Rattle.rules.specs.Lists.{below, elem, count, remove, indicator, filter, best, smaller, greater, thenBy}
+use Rattle.rules.specs.Lists.{elem, remove, filter}
 use Rattle.rules.specs.Order.{Input, Tie, byLowBits, inWindow, priority, goesFirst, nonempty, turn, turns, order}
-use Rattle.rules.proofs.Tests.{split, or-cases, mem-elem, elem-mem, mem-filter, filter-mem, neq}
+use Rattle.rules.proofs.Tests.{or-cases, mem-elem, elem-mem, mem-filter, filter-mem}
 use Rattle.rules.proofs.Orders.{Strict, best-is, strict-smaller, strict-greater, then-level, smaller-level}
 use Rattle.rules.proofs.Counting.{ind-true, elem-count, count-elem, length-remove}
 use Rattle.rules.proofs.TurnLaws.{Ascending, Untaken, Next, now, turn-elem, ascending-remove, ascending-nonempty, strict-order}

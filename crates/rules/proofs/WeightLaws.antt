@@ -1,13 +1,12 @@
 -- The bounds of weights: an entry is within ±2^32, and above seven keys the weight is held to ±2^40. Assumes nothing.
-use mathlib.Core.Path.{_≡_, refl}
 use mathlib.Core.Logic.{_⊎_, inl, inr}
-use mathlib.Core.Bool.{Bool, not, cond}
+use mathlib.Core.Bool.{not, cond}
 use Prim.Native.Nat.{ℕ, _+_, _-_, _*_, _^_, _≤_}
 use native.Mathlib.Nat.{le-trans}
 use native.Mathlib.Omega.{arith}
 use lib.Dec.{T, leb, lit≤}
 use lib.IntN.{ℤ, natAbs, pos, _+ℤ_, _-ℤ_, _*ℤ_}
-use Rattle.integers.specs.Ints.{up, dn, held, held-abs, abs-is, sub-is, one-side}
+use Rattle.integers.specs.Ints.{held, held-abs, abs-is, sub-is, one-side}
 use Rattle.rules.specs.Order.{Input, sizeOf, weightEntry, weight, priority}
 use Rattle.rules.specs.Good.{Moderate}
 use Rattle.rules.proofs.Tests.{split, is-true, is-false}

@@ -3,15 +3,15 @@
 use mathlib.Core.Path.{_≡_, refl}
 use mathlib.Core.Bool.{Bool, true, false}
 use mathlib.Core.List.{List, [], _∷_}
-use mathlib.Core.Option.{Option, some}
+use mathlib.Core.Option.{some}
 use Prim.Native.Nat.{ℕ, _^_}
 use lib.Dec.{T, ltb, ltb→lt}
 use lib.ListN.{getD}
 use Rattle.words.specs.Map.{Words}
 use Rattle.rules.specs.Lists.{every}
 use Rattle.rules.specs.Order.{Input, byLowBits}
-use Rattle.rules.specs.Numbers.{Lent, firstOf, sweepLines}
-use Rattle.rules.specs.Answers.{Said, Answer, Refusal, stopsAt, sweepAnswer, sweepSeeds, sweepBitmap}
+use Rattle.rules.specs.Numbers.{firstOf, sweepLines}
+use Rattle.rules.specs.Answers.{Answer, Refusal, stopsAt, sweepAnswer, sweepSeeds, sweepBitmap}
 use Rattle.rules.proofs.Ranges.{every-getD}
 use Rattle.rules.proofs.Theorems.{Swept, swept-low, Stopped, stopped}
 use Rattle.rules.proofs.Sheets.{table, small, listing, lentFor, runs}
