@@ -1,4 +1,4 @@
--- What is known of an input that the checks did not refuse: records of plain facts that a function or a law may ask for. proofs/CheckLaws shows that
+-- What is known of an input that the checks did not refuse: records of plain facts that a function or a law may ask for. CheckLaws and InputLaws show that
 -- each is exactly "none of its lines applies". Assumes nothing.
 use mathlib.Core.Path.{_≡_}
 use Prim.Native.Nat.{ℕ, _+_, _*_, _%_, _^_, _≤_, _<_}
