@@ -4,8 +4,9 @@ ghost use mathlib.Core.Bool.{not, true};
 ghost use Prim.Native.Nat.{_+_, _^_, _<_, _≤_};
 ghost use lib.ListN.{length};
 ghost use Rattle.rules.specs.Lists.{every};
-ghost use Rattle.rules.specs.Numbers.{moderate, rising};
+ghost use Rattle.rules.specs.Numbers.{beginsBad, moderate, rising, tableBad};
 ghost use Rattle.checks.specs.Largest.{Largest};
+use groups::begin_of;
 use groups::size_of;
 
 // A weight is beyond ±2^32.
@@ -39,6 +40,37 @@ pub fn falls(xs: &[u32], n: usize) -> bool
         k += 1;
     }
     false
+}
+
+// Begins is not what B buckets and a number of keys want.
+pub fn begins_bad(begins: &[u32], buckets: usize, keys: usize) -> bool
+    requires { ⌜ buckets < 2 ^ 32 ⌝ }
+    ensures { λ r. ⌜ r ≡ beginsBad (now (begins .entry)) buckets keys ⌝ }
+{
+    if begins.len() != buckets + 1 {
+        return true;
+    }
+    if begin_of(begins, 0) != 0 {
+        return true;
+    }
+    if falls(begins, buckets) {
+        return true;
+    }
+    if begin_of(begins, buckets) != keys {
+        return true;
+    }
+    67_108_864 < keys
+}
+
+// The table is too short, or falls within the entries needed.
+pub fn table_bad(table: &[u32], needed: usize) -> bool
+    requires { ⌜ 0 < needed ⌝ }
+    ensures { λ r. ⌜ r ≡ tableBad (now (table .entry)) needed ⌝ }
+{
+    if table.len() < needed {
+        return true;
+    }
+    falls(table, needed - 1)
 }
 
 // The size of the largest bucket.
