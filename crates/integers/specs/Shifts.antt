@@ -28,7 +28,7 @@ mask-below x l h = omega (arith, and-le-r x (l - 1))
 pub mul-lt-pow : {a b : ℕ} (s t : ℕ) → a < 2 ^ s → b < 2 ^ t → a * b < 2 ^ (s + t)
 mul-lt-pow {a} s t ha hb = lt-of-le-of-lt (mul-le-mul-left a (le-of-lt hb)) (shl-lt s t ha)
 
--- a power at most c times a power at most d
+-- the product of two powers
 pub pow-mul-le : (a b s : ℕ) → a + b ≤ s → 2 ^ a * 2 ^ b ≤ 2 ^ s
 pow-mul-le a b s h = subst (λ (x : ℕ). x ≤ 2 ^ s) (pow-add 2 a b) (pow-mono h)
 
@@ -37,7 +37,7 @@ pub pow-lt-cancel : {a b : ℕ} → 2 ^ a < 2 ^ b → a < b
 pow-lt-cancel h = lt-of-not-le (λ g. not-le-of-lt h (pow-mono g))
 
 pub pow-le-cancel : {a b : ℕ} → 2 ^ a ≤ 2 ^ b → a ≤ b
-pow-le-cancel {a} {b} h = lt-of-not-le' (λ g. not-le-of-lt (pow-lt g) h)
+pow-le-cancel {a} {b} h = at-most (λ g. not-le-of-lt (pow-lt g) h)
   where
-    lt-of-not-le' : (b < a → ⊥) → a ≤ b
-    lt-of-not-le' f = omega arith
+    at-most : (b < a → ⊥) → a ≤ b
+    at-most f = omega arith
