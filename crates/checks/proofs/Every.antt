@@ -1,19 +1,24 @@
 -- A test of every element, as a loop meets it: it is true where each element passes, and false where one fails. Assumes nothing.
-use mathlib.Core.Path.{_≡_, ap, _∙_, subst}
+use mathlib.Core.Path.{_≡_, refl, subst}
 use mathlib.Core.Logic.{inl, inr}
-use mathlib.Core.Bool.{Bool, true, false}
-use mathlib.Core.List.{List}
-use Prim.Native.Nat.{ℕ, _<_}
+use mathlib.Core.Bool.{Bool, true, false, _&&_}
+use mathlib.Core.List.{List, [], _∷_}
+use Prim.Native.Nat.{ℕ, zero, suc, _<_}
+use native.Mathlib.Omega.{arith}
 use lib.Dec.{T}
-use lib.ListN.{length, getD, List·getD-eq-default}
-use Rattle.words.specs.Cases.{lt-or-ge}
+use lib.ListN.{length, getD}
 use Rattle.rules.specs.Lists.{every, below}
 use Rattle.rules.proofs.Tests.{split, is-true, is-false, of-true}
-use Rattle.rules.proofs.Ranges.{every-below, below-every, every-getD, getD-every}
+use Rattle.rules.proofs.Ranges.{every-below, below-every}
 
 -- a test that one case would make absurd is false
 refuted : (t : Bool) → (T t → ⊥) → t ≡ false
 refuted t never = elim (split t) [ inl y ↦ absurd (never y) | inr n ↦ is-false t n ]
+
+-- nothing and false
+pub never : (a : Bool) → (a && false) ≡ false
+never true = refl
+never false = refl
 
 -- over the numbers below n
 module _ (p : ℕ → Bool) (n : ℕ) where
@@ -26,13 +31,13 @@ module _ (p : ℕ → Bool) (n : ℕ) where
   pub every-at : every p (below n) ≡ true → (k : ℕ) → k < n → p k ≡ true
   every-at e k l = is-true (p k) (every-below p n (of-true e) k l)
 
--- over a list by index, where what stands past its end passes
-module _ {A : Type 0} (p : A → Bool) (d : A) (past : p d ≡ true) (xs : List A) where
-  pub every-list : ((k : ℕ) → k < length xs → p (getD xs k d) ≡ true) → every p xs ≡ true
-  every-list h = is-true (every p xs) (getD-every p d xs each)
-    where
-      each : (k : ℕ) → T (p (getD xs k d))
-      each k = elim (lt-or-ge k (length xs)) [ inl l ↦ of-true (h k l) | inr l ↦ of-true (ap p (List·getD-eq-default xs d l) ∙ past) ]
+-- over a list, by index
+module _ {A : Type 0} (p : A → Bool) (d : A) where
+  pub every-list : (xs : List A) → ((k : ℕ) → k < length xs → p (getD xs k d) ≡ true) → every p xs ≡ true
+  every-list [] h = refl
+  every-list (x ∷ xs) h = rw (h 0 (omega arith)) (every-list xs (λ k l. h (suc k) (omega arith)))
 
-  pub list-fails : (k : ℕ) → p (getD xs k d) ≡ false → every p xs ≡ false
-  list-fails k e = refuted (every p xs) (λ t. subst T e (every-getD p d xs t (of-true past) k))
+  pub list-fails : (xs : List A) (k : ℕ) → k < length xs → p (getD xs k d) ≡ false → every p xs ≡ false
+  list-fails [] k l e = let z : ⊥ = omega arith in absurd z
+  list-fails (x ∷ xs) zero l e = rw e refl
+  list-fails (x ∷ xs) (suc k) l e = rw (list-fails xs k (omega arith) e) (never (p x))

@@ -1,3 +1,4 @@
 pub mod Every
 pub mod Weights
 pub mod Sizes
+pub mod Stray

@@ -8,11 +8,7 @@ use mir.Syntax.{w64}
 use mir.Val.{toZ, ofZ, SFits}
 use mir.Facts.{toZ-ofZ}
 use Rattle.rules.specs.Numbers.{moderate}
-
--- nothing and false
-never : (a : Bool) → (a && false) ≡ false
-never true = refl
-never false = refl
+use Rattle.checks.proofs.Every.{never}
 
 module _ (z : ℤ) (f : mag z < 2 ^ 63) where
   back : toZ w64 (ofZ w64 z) ≡ z

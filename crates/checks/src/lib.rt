@@ -5,8 +5,13 @@ ghost use Prim.Native.Nat.{_+_, _^_, _<_, _≤_};
 ghost use lib.ListN.{length};
 ghost use Rattle.rules.specs.Lists.{every};
 ghost use Rattle.rules.specs.Numbers.{beginsBad, moderate, rising, tableBad};
+ghost use Rattle.geometry.specs.Shape.{Made};
+ghost use Rattle.checks.specs.Homes.{Begun, Strayed, Strays};
 ghost use Rattle.checks.specs.Largest.{Largest};
+use geometry::place::bucket_of;
+use geometry::shape::Geometry;
 use groups::begin_of;
+use groups::keys_of;
 use groups::size_of;
 
 // A weight is beyond ±2^32.
@@ -89,4 +94,36 @@ pub fn largest_size(begins: &[u32], buckets: usize) -> usize
         b += 1;
     }
     z
+}
+
+// A key is outside bucket b.
+fn strays(g: Geometry, keys: &[u64], b: u64) -> bool
+    requires { ⌜ Made g ⌝ }
+    ensures { λ r. ⌜ Strays (g .settings) (now (keys .entry)) b r ⌝ }
+{
+    let mut k = 0;
+    while k < keys.len() {
+        if bucket_of(g, keys[k]) != b {
+            return true;
+        }
+        k += 1;
+    }
+    false
+}
+
+// A bucket below `buckets` has a key outside it.
+fn strayed(g: Geometry, hashes: &[u64], begins: &[u32], buckets: usize) -> bool
+    requires { ⌜ Made g ⌝ }
+    requires { ⌜ Begun (now begins) buckets (length (now hashes)) ⌝ }
+    ensures { λ r. ⌜ Strayed (g .settings) (now (hashes .entry)) (now (begins .entry)) buckets r ⌝ }
+{
+    let mut b = 0;
+    while b < buckets {
+        let keys = keys_of(hashes, begins, b);
+        if strays(g, keys, b as u64) {
+            return true;
+        }
+        b += 1;
+    }
+    false
 }

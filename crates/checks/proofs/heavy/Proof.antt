@@ -14,10 +14,6 @@ use Rattle.checks.proofs.heavy.Tie as tie
 use Rattle.checks.proofs.heavy.Reads as reads
 use Rattle.checks.proofs.heavy.Lts as lts
 
-past : moderate (pos 0) ≡ true
-unfolding moderate
-past = refl
-
 abbrev Inv-loop : tie.InvT-loop
 Inv-loop weights k₀ k = (k ≤ 7) × ((b : ℕ) → b < k → moderate (getD weights b (pos 0)) ≡ true)
 
@@ -38,11 +34,11 @@ array-copy-out-w c = search needs
 
 -- src/lib.rt:17:13
 returns : tie.Need-returns Inv-loop μ-loop
-returns c = ap not (sym (list-fails moderate (pos 0) past (c .before .before .before .before .args .t1) (c .before .before .before .loop .k) (too-high _ (c .before .w .given) (c .if1 .taken))))
+returns c = ap not (sym (list-fails moderate (pos 0) (c .before .before .before .before .args .t1) (c .before .before .before .loop .k) (omega (arith, c .before .before .before .before .good .0 .1 .0 .1)) (too-high _ (c .before .w .given) (c .if1 .taken))))
 
 -- src/lib.rt:20:13
 returns-2 : tie.Need-returns-2 Inv-loop μ-loop
-returns-2 c = ap not (sym (list-fails moderate (pos 0) past (c .before .before .before .before .before .args .t1) (c .before .before .before .before .loop .k) (too-low _ (c .before .before .w .given) (c .if2 .taken))))
+returns-2 c = ap not (sym (list-fails moderate (pos 0) (c .before .before .before .before .before .args .t1) (c .before .before .before .before .loop .k) (omega (arith, c .before .before .before .before .before .good .0 .1 .0 .1)) (too-low _ (c .before .before .w .given) (c .if2 .taken))))
 
 -- src/lib.rt:22:9
 add-k : tie.Need-add-k Inv-loop μ-loop
@@ -58,7 +54,7 @@ loop-again c = (omega arith, below-more _ (c .before .before .before .before .lo
 
 -- src/lib.rt:10:1
 returns-3 : tie.Need-returns-3 Inv-loop μ-loop
-returns-3 c = ap not (sym (every-list moderate (pos 0) past (c .before .before .args .t1) (λ k h. c .before .loop .inv .1 k (omega (arith, c .before .before .good .0 .1 .0 .1)))))
+returns-3 c = ap not (sym (every-list moderate (pos 0) (c .before .before .args .t1) (λ k h. c .before .loop .inv .1 k (omega (arith, c .before .before .good .0 .1 .0 .1)))))
 
 pub heavy-spec : {M : Type 1} → statement M
 heavy-spec =
