@@ -108,7 +108,7 @@ module _ (tie : Tie) (i : Input) where
 
       narrow : (x ≡ o) ⊎ List·Memᴰ x rest → List·Memᴰ x (o ∷ window)
       narrow (inl e) = List·Memᴰ·head e
-      narrow (inr k) = List·Memᴰ·tail (filter-mem (inWindow o) rest k (lt→ltb x (o + 256) h))
+      narrow (inr k) = List·Memᴰ·tail (filter-mem (inWindow o) rest k (lt→ltb x _ (omega arith)))
 
 -- ---- rule W as the document has it: what holds of each bucket at its turn
 
@@ -190,11 +190,11 @@ module _ (before : ℕ → ℕ → Bool) (F : Strict before) where
 
       near : (b ≡ o) ⊎ List·Memᴰ b window → b < o + 256
       near (inl e) = omega (arith, e)
-      near (inr m) = ltb→lt b (o + 256) (mem-filter (inWindow o) rest m .1)
+      near (inr m) = omega (arith, ltb→lt b _ (mem-filter (inWindow o) rest m .1))
 
       narrow : (x : ℕ) → x < o + 256 → T (eqb x o) ⊎ T (elem x rest) → List·Memᴰ x (o ∷ window)
       narrow x l (inl e) = List·Memᴰ·head (eqb→eq x o e)
-      narrow x l (inr t) = List·Memᴰ·tail (filter-mem (inWindow o) rest (elem-mem x rest t) (lt→ltb x (o + 256) l))
+      narrow x l (inr t) = List·Memᴰ·tail (filter-mem (inWindow o) rest (elem-mem x rest t) (lt→ltb x _ (omega arith)))
 
   -- what is next after `pre` among the rest is next after c and `pre` among all
   later : (c : ℕ) (all pre : List ℕ) (b : ℕ) → T (elem c all) → Next before (remove c all) pre b → Next before all (c ∷ pre) b

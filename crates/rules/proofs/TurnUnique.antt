@@ -57,14 +57,14 @@ module _ (before : ℕ → ℕ → Bool) (F : Strict before) where
 
         inside : (x : ℕ) → Untaken (o ∷ rest) [] x → x < o + 256 → List·Memᴰ x (o ∷ window)
         inside x u l = elim (or-cases (eqb x o) (elem x rest) (count-elem x (o ∷ rest) u))
-            [ inl e ↦ List·Memᴰ·head (eqb→eq x o e) | inr t ↦ List·Memᴰ·tail (filter-mem (inWindow o) rest (elem-mem x rest t) (lt→ltb x (o + 256) l)) ]
+            [ inl e ↦ List·Memᴰ·head (eqb→eq x o e) | inr t ↦ List·Memᴰ·tail (filter-mem (inWindow o) rest (elem-mem x rest t) (lt→ltb x _ (omega arith))) ]
 
         left : (y : ℕ) → List·Memᴰ y (o ∷ window) → Untaken (o ∷ rest) [] y
         left y m = elim (List·Memᴰ·cases-cons m)
             [ inl e ↦ elem-count y (o ∷ rest) (mem-elem {ys = o ∷ rest} (List·Memᴰ·head e)) | inr k ↦ elem-count y (o ∷ rest) (mem-elem {ys = o ∷ rest} (List·Memᴰ·tail (mem-filter (inWindow o) rest k .0))) ]
 
         narrow : (y : ℕ) → List·Memᴰ y (o ∷ window) → y < o + 256
-        narrow y m = elim (List·Memᴰ·cases-cons m) [ inl e ↦ omega (arith, e) | inr k ↦ ltb→lt y (o + 256) (mem-filter (inWindow o) rest k .1) ]
+        narrow y m = elim (List·Memᴰ·cases-cons m) [ inl e ↦ omega (arith, e) | inr k ↦ omega (arith, ltb→lt y _ (mem-filter (inWindow o) rest k .1)) ]
 
         close : (y : ℕ) → List·Memᴰ y (o ∷ window) → y < n .o + 256
         close y m = omega (arith, same-o, narrow y m)
@@ -89,7 +89,7 @@ module _ (before : ℕ → ℕ → Bool) (F : Strict before) where
         (follows-one f (remove (turn before o rest) (o ∷ rest)) bs (omega (arith, length-remove (turn before o rest) (o ∷ rest) (turn-elem before o rest)))
         (ascending-remove (turn before o rest) (o ∷ rest) h) (subst (λ (c : ℕ). Follows before (remove c (o ∷ rest)) bs) e (n .1)))
 
-low-near : (x y : ℕ) → x < y + 256 → y < x + 256 → x % 1024 ≡ y % 1024 → x ≡ y
+low-near : (x y : ℕ) → x < y + 256 → y < x + 256 → byLowBits x ≡ byLowBits y → x ≡ y
 low-near x y h k e = omega arith
 
 -- the rule for ties keeps the buckets of a window apart, if it does so where the priorities are level
