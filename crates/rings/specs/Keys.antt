@@ -1,11 +1,13 @@
 -- Ring keys. A ring key has two halves. The high one is the first slot of the key's ring, counted from slot start - 95, where start is the first slot
 -- of the bucket: so it counts entries of the table. The low one is the key's place in its ring at rotation 0, times 2^t.
 -- Assumes nothing.
+use mathlib.Core.Path.{_≡_}
 use mathlib.Core.Bool.{Bool, true, false}
 use mathlib.Core.List.{List}
 use Prim.Native.Nat.{ℕ, zero, suc, _+_, _-_, _*_, _/_, _%_, _^_, _≤_, _<_, max}
 use lib.Dec.{eqb}
 use lib.ListN.{length, getD}
+use Rattle.words.specs.Bit.{bit}
 use Rattle.rings.specs.declared.Ring.{Ring}
 use Rattle.rings.specs.Ring.{ringBit}
 
@@ -28,6 +30,10 @@ pub record Key (start d : ℕ) : Type 0 where
 
 abbrev pub Keys : (keys : List ℕ) (start : ℕ) → Type 0
 Keys keys start = (i : ℕ) → i < length keys → Key start (getD keys i 0)
+
+-- bit j of r: whether key d's slot at rotation 64 w + j is used
+pub record KeyRow (g : Ring) (used : List ℕ) (d start w r : ℕ) : Type 0 where
+  pub at : (j : ℕ) → j < 64 → j < g .n → bit r j ≡ ringBit (g .t) (g .words) used (slotAt g start d (64 * w + j))
 
 -- the sum of the first i keys' entries at a rotation
 unfoldable pub costTo : (g : Ring) (table keys : List ℕ) (rot i : ℕ) → ℕ

@@ -1,7 +1,7 @@
 -- Where the used ring has its slots: slot q = (64 c + i) 2^t + τ is bit i of word (c 2^t + τ) mod words. Assumes nothing.
 use mathlib.Core.Path.{_≡_}
 use mathlib.Core.List.{List}
-use Prim.Native.Nat.{ℕ, _+_, _*_, _/_, _%_, _^_, _≤_}
+use Prim.Native.Nat.{ℕ, _+_, _*_, _/_, _%_, _^_, _≤_, _<_}
 use lib.ListN.{getD}
 use Rattle.words.specs.Bit.{bit}
 use Rattle.rings.specs.declared.Ring.{Ring}
@@ -25,6 +25,11 @@ pub record Shape (g : Ring) : Type 0 where
   pub k : ℕ
   pub ring : g .n ≡ 2 ^ k
   pub span : g .n * 2 ^ (g .t) ≤ 65536
+
+-- r is the word w, which is one of the ring's
+pub record Word (words w r : ℕ) : Type 0 where
+  pub is : r ≡ w
+  pub lt : r < words
 
 -- a ring by its numbers
 abbrev pub ringOf : (t words n rotations : ℕ) → Ring
