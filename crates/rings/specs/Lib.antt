@@ -1,6 +1,11 @@
 pub mod Ring
 pub mod Rows
 pub mod Keys
+pub mod Parts
+pub mod Marks
+pub mod Place
 pub mod RingLaws
 pub mod RowLaws
 pub mod KeyLaws
+pub mod MarkLaws
+pub mod PlaceLaws

@@ -52,31 +52,23 @@ unfolding markedTo
 length-markedTo g l keys start j zero = refl
 length-markedTo g l keys start j (suc i) = length-mark (g .t) (g .words) (markedTo g l keys start j i) (keySlot g keys start j i) ∙ length-markedTo g l keys start j i
 
-pub markedTo-above : (g : Ring) → Shape g → (l keys : List ℕ) (start j i k : ℕ) → g .words ≤ k → getD (markedTo g l keys start j i) k 0 ≡ getD l k 0
-unfolding markedTo
-markedTo-above g s l keys start j zero k h = refl
-markedTo-above g s l keys start j (suc i) k h =
-    marked-above (g .t) (g .words) (markedTo g l keys start j i) (keySlot g keys start j i) k (shape-pos g s) h ∙ markedTo-above g s l keys start j i k h
-
--- the same of a part above the ring
+-- what stands above the ring stays
 pub drop-markedTo : (g : Ring) → Shape g → (l keys : List ℕ) (start j i n : ℕ) → g .words ≤ n → drop n (markedTo g l keys start j i) ≡ drop n l
-unfolding markedTo ringMarked
+unfolding markedTo
 drop-markedTo g s l keys start j zero n h = refl
-drop-markedTo g s l keys start j (suc i) n h =
-    drop-set-lt n (markedTo g l keys start j i) (wordOf (g .t) (g .words) (keySlot g keys start j i))
-    (bitOr (getD (markedTo g l keys start j i) (wordOf (g .t) (g .words) (keySlot g keys start j i)) 0) (2 ^ bitOf (g .t) (keySlot g keys start j i)))
-    (omega (arith, word-lt (g .t) (g .words) (keySlot g keys start j i) (shape-pos g s)))
-    ∙ drop-markedTo g s l keys start j i n h
+drop-markedTo g s l keys start j (suc i) n h = drop-mark g s (markedTo g l keys start j i) (keySlot g keys start j i) n h ∙ drop-markedTo g s l keys start j i n h
+
+pub markedTo-above : (g : Ring) → Shape g → (l keys : List ℕ) (start j i k : ℕ) → g .words ≤ k → getD (markedTo g l keys start j i) k 0 ≡ getD l k 0
+markedTo-above g s l keys start j i k h = above-same (g .words) l (markedTo g l keys start j i) (drop-markedTo g s l keys start j i (g .words) (omega arith)) k h
 
 pub part-markedTo : (g : Ring) → Shape g → (l keys : List ℕ) (start j i at size : ℕ) {l' : List ℕ} → g .words ≤ at → l' ≡ markedTo g l keys start j i → part l' at size ≡ part l at size
 part-markedTo g s l keys start j i at size h e = rw (e, drop-markedTo g s l keys start j i at h) refl
 
 -- the words stay words
-pub markedTo-words : (g : Ring) → Shape g → (l keys : List ℕ) (start j i : ℕ) → g .words ≤ length l → Words l → Words (markedTo g l keys start j i)
+pub markedTo-words : (g : Ring) → Shape g → (l keys : List ℕ) (start j i : ℕ) → Words l → Words (markedTo g l keys start j i)
 unfolding markedTo
-markedTo-words g s l keys start j zero fits h = h
-markedTo-words g s l keys start j (suc i) fits h =
-    mark-words g s (markedTo g l keys start j i) (keySlot g keys start j i) (omega (arith, length-markedTo g l keys start j i)) (markedTo-words g s l keys start j i fits h)
+markedTo-words g s l keys start j zero h = h
+markedTo-words g s l keys start j (suc i) h = mark-words g s (markedTo g l keys start j i) (keySlot g keys start j i) (markedTo-words g s l keys start j i h)
 
 -- marks that found their slots free, taken back
 pub taken-back : (g : Ring) → Shape g → (l keys : List ℕ) (start j i : ℕ) → g .words ≤ length l → Words l → Fresh g l keys start j i
@@ -84,7 +76,7 @@ pub taken-back : (g : Ring) → Shape g → (l keys : List ℕ) (start j i : ℕ
 unfolding markedTo unmarkedTo
 taken-back g s l keys start j zero fits h f = refl
 taken-back g s l keys start j (suc i) fits h f =
-    rw (unmark-mark g s (markedTo g l keys start j i) (keySlot g keys start j i) (omega (arith, length-markedTo g l keys start j i)) (markedTo-words g s l keys start j i fits h) (f i (omega arith)))
+    rw (unmark-mark g s (markedTo g l keys start j i) (keySlot g keys start j i) (omega (arith, length-markedTo g l keys start j i)) (markedTo-words g s l keys start j i h) (f i (omega arith)))
     (taken-back g s l keys start j i fits h (λ m hm. f m (omega arith)))
 
 -- a key that is read beside a ring that is being ringMarked
@@ -101,7 +93,7 @@ fresh-more g l keys start j i f e m h =
     (λ (a : i ≤ m). let x : m ≡ i = omega arith in rw x e)
     (lt-or-ge m i)
 
--- ---- the loop of `mark_keys`, over keys that lie in the ringMarked list itself, above the ring
+-- ---- the loop of `mark_keys`, over keys that lie in the marked list itself, above the ring
 
 pub record Marking (g : Ring) (l : List ℕ) (at size start j i : ℕ) (now : List ℕ) : Type 0 where
   pub is : now ≡ markedTo g l (part l at size) start j i
@@ -116,7 +108,7 @@ module _ {g : Ring} {l : List ℕ} {at size start j i : ℕ} {l' : List ℕ} (s 
   pub marking-key : getD l' (at + i) 0 ≡ getD (part l at size) i 0
   marking-key = key-here g s l at size start j i above lt (k .is)
 
-  pub marking-ok : at + size ≤ length l → Keys (part l at size) start → 95 ≤ getD l' (at + i) 0 / 2 ^ 32 + start
+  pub marking-ok : at + size ≤ length l → Keys (part l at size) start → Key start (getD l' (at + i) 0)
   marking-ok fits h = rw marking-key (h i (omega (arith, length-part l at size fits)))
 
   slot-here : {p : ℕ} → p ≡ slotAt g start (getD l' (at + i) 0) j → p ≡ keySlot g (part l at size) start j i
@@ -166,7 +158,7 @@ module _ {g : Ring} {l : List ℕ} {at size start j count i : ℕ} {l' : List �
   pub unmarking-key : getD l' (at + (i - 1)) 0 ≡ getD (part l at size) (i - 1) 0
   unmarking-key = u .above (at + (i - 1)) (omega arith) ∙ sym (part-at l at size (i - 1) (omega arith))
 
-  pub unmarking-ok : at + size ≤ length l → Keys (part l at size) start → 95 ≤ getD l' (at + (i - 1)) 0 / 2 ^ 32 + start
+  pub unmarking-ok : at + size ≤ length l → Keys (part l at size) start → Key start (getD l' (at + (i - 1)) 0)
   unmarking-ok fits h = rw unmarking-key (h (i - 1) (omega (arith, length-part l at size fits)))
 
   pub unmarking-more : {p : ℕ} {l'' : List ℕ} → p ≡ slotAt g start (getD l' (at + (i - 1)) 0) j → l'' ≡ ringUnmarked (g .t) (g .words) l' p
@@ -177,7 +169,7 @@ module _ {g : Ring} {l : List ℕ} {at size start j count i : ℕ} {l' : List �
         is = rw (now, at-key) (sym (unmarkedTo-more g l' (part l at size) start j i pos)) ∙ u .is;
         le = omega (arith, u .le);
         len = ap length now ∙ length-unmark (g .t) (g .words) l' p ∙ u .len;
-        above = λ k h. ap (λ (x : List ℕ). getD x k 0) now ∙ unmarked-above (g .t) (g .words) l' p k (shape-pos g s) h ∙ u .above k h;
+        above = λ k h. ap (λ (x : List ℕ). getD x k 0) now ∙ above-same (g .words) l' (ringUnmarked (g .t) (g .words) l' p) (drop-unmark g s l' p (g .words) (omega arith)) k h ∙ u .above k h;
       }
 
 -- ---- what `place` answers
@@ -212,7 +204,7 @@ module _ (g : Ring) (s : Shape g) (l keys : List ℕ) (start j base : ℕ) (fits
   step-other : (i q : ℕ) → Within g base q → Within g base (keySlot g keys start j i) → q ≢ keySlot g keys start j i
       → ringBit (g .t) (g .words) (markedTo g l keys start j (suc i)) q ≡ ringBit (g .t) (g .words) (markedTo g l keys start j i) q
   unfolding markedTo
-  step-other i q wq wp n = mark-other g s (markedTo g l keys start j i) (keySlot g keys start j i) (fits-to i) q (omega arith) (omega arith) n
+  step-other i q wq wp n = mark-other g s (markedTo g l keys start j i) (keySlot g keys start j i) q (omega (arith, wq .below, wp .from)) (omega (arith, wq .from, wp .below)) n
 
   -- every other slot is as it was
   pub marked-out : (i q : ℕ) → Within g base q → ((m : ℕ) → m < i → Within g base (keySlot g keys start j m)) → ((m : ℕ) → m < i → q ≢ keySlot g keys start j m)
@@ -274,3 +266,26 @@ fitted-yes {g} {l} {keys} {start} {j} {size} {ok} {mid} {after} s fits small p e
   record { yes = λ t. p .yes e .1; no = λ f. absurd (differ (sym f)) },
   u ∙ ap (λ (x : List ℕ). unmarkedTo g x keys start j size) (p .yes e .0) ∙ taken-back g s l keys start j size fits small (p .yes e .1),
 )
+
+-- ---- the loop of `mark_bitmap`
+
+pub length-mapTo : (g : Ring) (bitmap keys : List ℕ) (start j i : ℕ) → length (mapTo g bitmap keys start j i) ≡ length bitmap
+unfolding mapTo
+length-mapTo g bitmap keys start j zero = refl
+length-mapTo g bitmap keys start j (suc i) = length-marked (mapTo g bitmap keys start j i) (keySlot g keys start j i) ∙ length-mapTo g bitmap keys start j i
+
+pub record Mapping (g : Ring) (bitmap keys : List ℕ) (start j i : ℕ) (now : List ℕ) : Type 0 where
+  pub le : i ≤ length keys
+  pub is : now ≡ mapTo g bitmap keys start j i
+  pub len : length now ≡ length bitmap
+
+pub mapping-none : (g : Ring) (bitmap keys : List ℕ) (start j : ℕ) → Mapping g bitmap keys start j 0 bitmap
+unfolding mapTo
+mapping-none g bitmap keys start j = record { le = omega arith; is = refl; len = refl }
+
+pub mapping-more : {g : Ring} {bitmap keys : List ℕ} {start j i p : ℕ} {now after : List ℕ} → Mapping g bitmap keys start j i now → i < length keys → p ≡ slotAt g start (getD keys i 0) j
+    → after ≡ marked now p → Mapping g bitmap keys start j (i + 1) after
+unfolding mapTo
+mapping-more {g} {bitmap} {keys} {start} {j} {i} {p} {now} {after} m lt e is =
+    let here : after ≡ mapTo g bitmap keys start j (i + 1) = is ∙ rw (e, m .is, add-one) refl in
+    record { le = omega arith; is = here; len = ap length here ∙ length-mapTo g bitmap keys start j (i + 1) }

@@ -2,6 +2,8 @@
 pub mod slots;
 pub mod rows;
 pub mod keys;
+pub mod marks;
+pub mod place;
 
 // The numbers of a ring: it has `words` words, and its rows go by steps of 2^t slots; a key has n slots to take, and a layout has `rotations` seeds.
 pub struct Ring {
