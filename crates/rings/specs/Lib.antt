@@ -4,8 +4,10 @@ pub mod Keys
 pub mod Parts
 pub mod Marks
 pub mod Place
+pub mod Free
 pub mod RingLaws
 pub mod RowLaws
 pub mod KeyLaws
+pub mod FreeLaws
 pub mod MarkLaws
 pub mod PlaceLaws

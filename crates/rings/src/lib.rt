@@ -2,6 +2,7 @@
 pub mod slots;
 pub mod rows;
 pub mod keys;
+pub mod free;
 pub mod marks;
 pub mod place;
 
