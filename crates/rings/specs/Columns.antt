@@ -14,7 +14,7 @@ use Rattle.rings.specs.Ring.{ringBit}
 
 -- the first slot of column c
 abbrev pub colSlot : (t c : ℕ) → ℕ
-colSlot t c = 64 * (c * 2 ^ t)
+colSlot t c = c * 2 ^ t * 64
 
 -- the ring's first word of column c
 unfoldable pub colWord : (g : Ring) (c : ℕ) → ℕ
@@ -26,19 +26,21 @@ pub record Caches (g : Ring) (ring bitmap : List ℕ) (first : ℕ) : Type 0 whe
   pub start : first ≡ colSlot (g .t) col
   pub same : (q : ℕ) → first ≤ q → q < first + 64 * g .words → ringBit (g .t) (g .words) ring q ≡ slot bitmap q
 
--- k words from a on are cleared
-pub record Zeroed (l : List ℕ) (a k : ℕ) (after : List ℕ) : Type 0 where
-  pub len : length after ≡ length l
-  pub inside : (i : ℕ) → a ≤ i → i < a + k → getD after i 0 ≡ 0
-  pub outside : (i : ℕ) → (a ≤ i → i < a + k → ⊥) → getD after i 0 ≡ getD l i 0
+-- whether no slot from p on and below e is used
+unfoldable pub noneUsed : (bitmap : List ℕ) (p e : ℕ) → Bool
+noneUsed bitmap p e = eqb (nextSet bitmap p e) e
 
 -- bit j of w, for j below i, is slot p + j 2^t of the bitmap; the others are 0
 pub record Strided (t : ℕ) (bitmap : List ℕ) (p i w : ℕ) : Type 0 where
   pub at : (j : ℕ) → j < i → bit w j ≡ slot bitmap (p + j * 2 ^ t)
   pub past : (j : ℕ) → i ≤ j → bit w j ≡ 0
 
--- the first k words of column c are loaded from the bitmap
-pub record Column (g : Ring) (l bitmap : List ℕ) (c k : ℕ) (after : List ℕ) : Type 0 where
+-- word a + i, for i below k, has the row of slots from p + i on; the others are as they were
+pub record Loaded (t : ℕ) (l bitmap : List ℕ) (p a k : ℕ) (after : List ℕ) : Type 0 where
   pub len : length after ≡ length l
-  pub inside : (i : ℕ) → i < k → Strided (g .t) bitmap (colSlot (g .t) c + i) 64 (getD after (colWord g c + i) 0)
-  pub outside : (i : ℕ) → (colWord g c ≤ i → i < colWord g c + k → ⊥) → getD after i 0 ≡ getD l i 0
+  pub inside : (i : ℕ) → i < k → Strided t bitmap (p + i) 64 (getD after (a + i) 0)
+  pub outside : (i : ℕ) → (a ≤ i → i < a + k → ⊥) → getD after i 0 ≡ getD l i 0
+
+-- column c is loaded from the bitmap
+abbrev pub Column : (g : Ring) (l bitmap : List ℕ) (c : ℕ) (after : List ℕ) → Type 0
+Column g l bitmap c after = Loaded (g .t) l bitmap (colSlot (g .t) c) (colWord g c) (2 ^ (g .t)) after

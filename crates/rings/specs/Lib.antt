@@ -5,9 +5,12 @@ pub mod Parts
 pub mod Marks
 pub mod Place
 pub mod Free
+pub mod Columns
 pub mod RingLaws
 pub mod RowLaws
 pub mod KeyLaws
 pub mod FreeLaws
 pub mod MarkLaws
 pub mod PlaceLaws
+pub mod ColumnLaws
+pub mod CacheLaws

@@ -5,6 +5,7 @@ pub mod keys;
 pub mod free;
 pub mod marks;
 pub mod place;
+pub mod columns;
 
 // The numbers of a ring: it has `words` words, and its rows go by steps of 2^t slots; a key has n slots to take, and a layout has `rotations` seeds.
 pub struct Ring {
