@@ -108,6 +108,16 @@ cell-lt t i τ hi ht = omega (arith, mul-le-mul-right (2 ^ t) hi, more)
     more : suc i * 2 ^ t ≡ i * 2 ^ t + 2 ^ t
     more = omega arith
 
+-- 64 << t
+pub column-lt : (g : Ring) → Shape g → 64 * 2 ^ (g .t) ≤ 2 ^ 22
+column-lt g s = omega (arith, pow-le)
+  where
+    pow-le : 2 ^ (g .t) ≤ 2 ^ 16
+    pow-le = pow-mono (s .stride)
+
+pub column-code : (g : Ring) → Shape g → (p : ℕ) → p + 64 * 2 ^ (g .t) % 2 ^ 64 ≡ p + 64 * 2 ^ (g .t)
+column-code g s p = ap (λ (x : ℕ). p + x) (mod-eq-of-lt (omega (arith, column-lt g s)))
+
 module _ (g : Ring) (s : Shape g) (c : ℕ) where
   col-split : colWord g c ≡ c % 2 ^ (s .e) * 2 ^ (g .t)
   unfolding colWord

@@ -71,9 +71,9 @@ place-whole g s d j =
     let low : d % 2 ^ 32 / 2 ^ (g .t) ≡ d / 2 ^ (g .t) % 2 ^ (32 - g .t) = mod-div-le d 32 (g .t) (omega (arith, s .stride)) in
     let cut : d / 2 ^ (g .t) % 2 ^ (32 - g .t) % 2 ^ (s .k) ≡ d / 2 ^ (g .t) % 2 ^ (s .k) = mod-mod-le (d / 2 ^ (g .t)) (32 - g .t) (s .k) (omega (arith, span-pow g s)) in
     rw (add-mul-div-right d j (pow-pos (g .t)), s .ring, low) (
-      sym (mod-add-mod (d / 2 ^ (g .t)) (2 ^ (s .k)) j)
-      ∙ ap (λ (x : ℕ). (x + j) % 2 ^ (s .k)) (sym cut)
-      ∙ mod-add-mod (d / 2 ^ (g .t) % 2 ^ (32 - g .t)) (2 ^ (s .k)) j)
+    sym (mod-add-mod (d / 2 ^ (g .t)) (2 ^ (s .k)) j)
+    ∙ ap (λ (x : ℕ). (x + j) % 2 ^ (s .k)) (sym cut)
+    ∙ mod-add-mod (d / 2 ^ (g .t) % 2 ^ (32 - g .t)) (2 ^ (s .k)) j)
 
 pub mask-lt : (g : Ring) → Shape g → (g .n - 1) * 2 ^ (g .t) < 65536
 mask-lt g s = step-lt g s (g .n - 1) (omega (arith, n-pos g s))

@@ -12,8 +12,18 @@ use lib.Bits.{bitAnd, bitOr}
 use Rattle.words.specs.Bit.{bit}
 use Rattle.words.specs.Map.{Words}
 use Rattle.words.specs.MapLaws.{
-  length-markedAt, markedAt-same, markedAt-other, markedAt-words, drop-markedAt, mark-code,
-  length-clearedAt, clearedAt-same, clearedAt-other, drop-clearedAt, clear-code, clearedAt-markedAt,
+  length-markedAt,
+  markedAt-same,
+  markedAt-other,
+  markedAt-words,
+  drop-markedAt,
+  mark-code,
+  length-clearedAt,
+  clearedAt-same,
+  clearedAt-other,
+  drop-clearedAt,
+  clear-code,
+  clearedAt-markedAt,
 }
 use Rattle.rings.specs.declared.Ring.{Ring}
 use Rattle.rings.specs.Ring.{Shape, wordOf, bitOf, ringBit}

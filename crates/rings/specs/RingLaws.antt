@@ -60,6 +60,7 @@ same-mod t e p q hw hb =
     let c : p / 2 ^ t / 64 % 2 ^ e ≡ q / 2 ^ t / 64 % 2 ^ e = sym (digits-div (p / 2 ^ t / 64 % 2 ^ e) dp) ∙ ap (λ (x : ℕ). x / 2 ^ t) w ∙ digits-div (q / 2 ^ t / 64 % 2 ^ e) dq in
     let r : p % 2 ^ t ≡ q % 2 ^ t = sym (digits-mod (p / 2 ^ t / 64 % 2 ^ e) dp) ∙ ap (λ (x : ℕ). x % 2 ^ t) w ∙ digits-mod (q / 2 ^ t / 64 % 2 ^ e) dq in
     slot-mod t e p ∙ rw (c, hb, r) (sym (slot-mod t e q))
+
 ring-slots : (t e : ℕ) → 64 * 2 ^ (e + t) ≡ 2 ^ e * 64 * 2 ^ t
 ring-slots t e = ap (λ (x : ℕ). 64 * x) (pow-add 2 e t) ∙ omega arith
 

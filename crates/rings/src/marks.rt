@@ -5,7 +5,8 @@ ghost use lib.ListN.{length};
 ghost use Rattle.rings.specs.Ring.{Shape};
 ghost use Rattle.rings.specs.Marks.{ringUnmarked, Took};
 use crate::Ring;
-use crate::slots::{bit_of, word_of};
+use crate::slots::bit_of;
+use crate::slots::word_of;
 
 // Unmarks slot p.
 pub fn unmark(g: Ring, work: &mut [u64], p: usize)

@@ -8,7 +8,8 @@ ghost use Rattle.rings.specs.Parts.{part};
 ghost use Rattle.rings.specs.Place.{unmarkedTo, MarkedUpTo, Placed, Fitted, mapTo, InMap};
 use crate::Ring;
 use crate::keys::slot_of;
-use crate::marks::{take_slot, unmark};
+use crate::marks::take_slot;
+use crate::marks::unmark;
 
 // Marks the slots of the keys at work[at..at + size] at rotation j, one after the other, up to one that is marked already; tells how many.
 fn mark_keys(g: Ring, work: &mut [u64], at: usize, size: usize, start: usize, j: usize) -> usize

@@ -1,29 +1,33 @@
+use mathlib.Core.Path.{_≡_}
+use Prim.Native.Nat.{_*_, _%_, _^_}
+use native.Mathlib.Omega.{arith}
+use native.Mathlib.Nat.{mod-eq-of-lt}
 use borrow.Author.Needs.{needs}
+use Rattle.rings.specs.RingLaws.{shape-pos}
+use Rattle.rings.specs.ColumnLaws.{col-code, col-end}
 use Rattle.rings.proofs.columns.load_column.Statement.{statement}
 use Rattle.rings.proofs.columns.load_column.Tie as tie
-use Rattle.rings.proofs.columns.load_column.Reads as reads
-use Rattle.rings.proofs.columns.load_column.Lts as lts
-use Rattle.rings.proofs.columns.load_rows.Reads as load-rows-reads
 
--- src/columns.rt:84:16
 shl-from : tie.Need-shl-from
 shl-from c = search needs
 
--- src/columns.rt:85:48
 sub-load-rows : tie.Need-sub-load-rows
-sub-load-rows c = ?
+sub-load-rows c = let s = c .before .before .before .before .before in shape-pos (s .args .g) (s .pre .0)
 
--- src/columns.rt:85:5
 load-rows-requires : tie.Need-load-rows-requires
-load-rows-requires c κs = ?
+load-rows-requires c κs =
+    let s = c .before .before .before .before .before in
+    let from : s .args .c * 2 ^ (s .args .g .t) % 2 ^ 64 ≡ s .args .c * 2 ^ (s .args .g .t) = mod-eq-of-lt (omega arith) in
+    (s .pre .0 .stride, omega (arith, from), omega (arith, col-code (s .args .g) (s .pre .0) (s .args .c) (omega arith), col-end (s .args .g) (s .pre .0) (s .args .c)))
 
--- src/columns.rt:79:1
 same-length : tie.Need-same-length
 same-length c = search needs
 
--- src/columns.rt:79:1
 returns : tie.Need-returns
-returns c = ?
+returns c =
+    let s = c .before .before .before .before .before .before .before .before in
+    let from : s .args .c * 2 ^ (s .args .g .t) % 2 ^ 64 ≡ s .args .c * 2 ^ (s .args .g .t) = mod-eq-of-lt (omega arith) in
+    rw (col-code (s .args .g) (s .pre .0) (s .args .c) (omega arith), from) at (c .before .before .load-rows .ensures)
 
 pub load-column-spec : {M : Type 1} → statement M
 load-column-spec =

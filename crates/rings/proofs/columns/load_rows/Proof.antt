@@ -42,10 +42,11 @@ add-column-word c = let s = c .before .before .before .before .before in omega (
 column-word-requires : tie.Need-column-word-requires Inv-loop μ-loop
 column-word-requires c κs =
     let s = c .before .before .before .before .before in
-    let n = stride (s .args .t) (s .pre .0) in
-    ((s .pre .0, omega (arith, n)),
-    λ e. rows-empty (s .args .t) (s .args .bitmap .now) (s .args .from) (c .before .loop .i) (omega (arith, n))
-    (ap (λ (x : ℕ). noneUsed (s .args .bitmap .now) (s .args .from * 64) ((s .args .from + x) * 64)) (sym (n .0)) ∙ sym (c .before .before .none-used .ensures) ∙ e))
+    let n = stride (s .args .t) (s .pre .0) in (
+      (s .pre .0, omega (arith, n)),
+      λ e. rows-empty (s .args .t) (s .args .bitmap .now) (s .args .from) (c .before .loop .i) (omega (arith, n))
+          (ap (λ (x : ℕ). noneUsed (s .args .bitmap .now) (s .args .from * 64) ((s .args .from + x) * 64)) (sym (n .0)) ∙ sym (c .before .before .none-used .ensures) ∙ e),
+    )
 
 add-work : tie.Need-add-work Inv-loop μ-loop
 add-work c = let s = c .before .before .before .before .before .before in omega (arith, stride (s .args .t) (s .pre .0))

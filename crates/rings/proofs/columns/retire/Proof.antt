@@ -1,41 +1,44 @@
+use mathlib.Core.Path.{_≡_, refl}
+use Prim.Native.Nat.{ℕ, _/_, _^_}
+use native.Mathlib.Omega.{arith}
+use lib.Pow.{shr-le}
 use borrow.Author.Needs.{needs}
+use Rattle.rings.specs.ColumnLaws.{column-lt, column-code, column-above}
+use Rattle.rings.specs.CacheLaws.{next-slot, caches-next}
 use Rattle.rings.proofs.columns.retire.Statement.{statement}
 use Rattle.rings.proofs.columns.retire.Tie as tie
-use Rattle.rings.proofs.columns.retire.Reads as reads
-use Rattle.rings.proofs.columns.retire.Lts as lts
-use Rattle.rings.proofs.columns.load_column.Reads as load-column-reads
 
--- src/columns.rt:96:14
 shr-c : tie.Need-shr-c
 shr-c c = search needs
 
--- src/columns.rt:96:41
 shr-c-2 : tie.Need-shr-c-2
 shr-c-2 c = search needs
 
--- src/columns.rt:96:13
 add-c : tie.Need-add-c
-add-c c = ?
+add-c c = let s = c .before .before .before .before in omega (arith, shr-le (s .args .first-slot) (s .args .g .t), shr-le (s .args .g .words) (s .args .g .t))
 
--- src/columns.rt:97:5
 load-column-requires : tie.Need-load-column-requires
-load-column-requires c κs = ?
+load-column-requires c κs =
+    let s = c .before .before .before .before .before in
+    (s .pre .0, (s .pre .1 .0 .0, omega (arith, next-slot (s .pre .0) (s .pre .1 .1) refl, s .pre .0 .few)))
 
--- src/columns.rt:98:19
 shl-result : tie.Need-shl-result
 shl-result c = search needs
 
--- src/columns.rt:98:5
 add-result : tie.Need-add-result
-add-result c = ?
+add-result c =
+    let s = c .before .before .before .before .before .before .before .before .before in
+    omega (arith, column-code (s .args .g) (s .pre .0) (s .args .first-slot), column-lt (s .args .g) (s .pre .0))
 
--- src/columns.rt:89:1
 same-length : tie.Need-same-length
 same-length c = search needs
 
--- src/columns.rt:89:1
 returns : tie.Need-returns
-returns c = ?
+returns c =
+    let s = c .before .before .before .before .before .before .before .before .before in
+    let e = column-code (s .args .g) (s .pre .0) (s .args .first-slot) in
+    let k = c .before .before .before .load-column .ensures in
+    ((e, rw e (caches-next (s .pre .0) (s .pre .1 .1) refl k)), column-above (s .pre .0) _ k)
 
 pub retire-spec : {M : Type 1} → statement M
 retire-spec =

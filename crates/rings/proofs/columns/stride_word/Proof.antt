@@ -40,10 +40,11 @@ loop-less c = search needs
 
 loop-again : tie.Need-loop-again Inv-loop μ-loop
 loop-again c =
-    let s = c .before .before .before .before in
-    (omega arith,
-    strided-more (c .before .before .loop .inv .1) (c .before .loop-test .taken)
-    (c .slot-bit .ensures ∙ ap (slot (s .args .bitmap .now)) (row-code (s .args .t) (s .args .p) (c .before .before .loop .i) (s .pre .0) (c .before .loop-test .taken))))
+    let s = c .before .before .before .before in (
+      omega arith,
+      strided-more (c .before .before .loop .inv .1) (c .before .loop-test .taken)
+          (c .slot-bit .ensures ∙ ap (slot (s .args .bitmap .now)) (row-code (s .args .t) (s .args .p) (c .before .before .loop .i) (s .pre .0) (c .before .loop-test .taken))),
+    )
 
 returns : tie.Need-returns Inv-loop μ-loop
 returns c =
