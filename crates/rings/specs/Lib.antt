@@ -14,3 +14,5 @@ pub mod MarkLaws
 pub mod PlaceLaws
 pub mod ColumnLaws
 pub mod CacheLaws
+pub mod Level
+pub mod LevelLaws
