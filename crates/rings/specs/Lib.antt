@@ -10,6 +10,7 @@ pub mod RingLaws
 pub mod RowLaws
 pub mod KeyLaws
 pub mod FreeLaws
+pub mod FilledLaws
 pub mod MarkLaws
 pub mod PlaceLaws
 pub mod ColumnLaws

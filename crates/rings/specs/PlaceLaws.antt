@@ -255,6 +255,12 @@ module _ (g : Ring) (s : Shape g) (l keys : List ℕ) (start j base : ℕ) (fits
   free-fresh i w f d m h =
       marked-out m (keySlot g keys start j m) (w m h) (λ k hk. w k (omega arith)) (λ k hk e. d k m hk h (sym e)) ∙ f m h
 
+-- a key that met a marked slot: the slots were not all free and different
+pub met-clash : (g : Ring) → Shape g → (l keys : List ℕ) (start j base size : ℕ) → g .words ≤ length l → ((m : ℕ) → m < size → Within g base (keySlot g keys start j m))
+    → ((m : ℕ) → m < size → ringBit (g .t) (g .words) l (keySlot g keys start j m) ≡ 0) → ((m k : ℕ) → m < k → k < size → keySlot g keys start j m ≢ keySlot g keys start j k)
+    → Met g l keys start j size → ⊥
+met-clash g s l keys start j base size fits w free apart met = omega (arith, met .hit, free-fresh g s l keys start j base fits size w free apart (met .m) (met .lt))
+
 -- ---- what `fits` answers
 
 pub fitted-no : {g : Ring} {l keys : List ℕ} {start j size : ℕ} {ok : Bool} {after : List ℕ} → Placed g l keys start j size ok after → ok ≡ false → (Fitted g l keys start j size false) × (after ≡ l)
