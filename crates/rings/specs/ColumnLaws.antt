@@ -3,31 +3,30 @@
 -- in these words would be a slot of column c, since within the ring's length no two slots share a place.
 -- Assumes nothing.
 use mathlib.Core.Path.{_≡_, refl, sym, ap, ap₂, _∙_}
-use mathlib.Core.Logic.{_≢_, _⊎_, ⊎-elim}
-use mathlib.Core.Bool.{Bool, true, false}
+use mathlib.Core.Logic.{_⊎_, ⊎-elim}
+use mathlib.Core.Bool.{true}
 use mathlib.Core.List.{List}
-use Prim.Native.Nat.{ℕ, zero, suc, _+_, _-_, _*_, _/_, _%_, _^_, _≤_, _<_, max}
+use Prim.Native.Nat.{ℕ, suc, _+_, _-_, _*_, _/_, _%_, _^_, _≤_, _<_}
 use native.Mathlib.Omega.{arith}
-use native.Mathlib.Nat.{mod-lt, mod-eq-of-lt, div-add-mod, mul-le-mul-left, mul-le-mul-right, add-mul-div-right, add-mul-mod-self-right}
+use native.Mathlib.Nat.{mod-lt, mod-eq-of-lt, div-add-mod, mul-le-mul-left, mul-le-mul-right}
 use lib.Arith.{digits-div, digits-mod, mod-mul}
 use lib.Bits.{bitAnd, bitOr, and-mask}
-use lib.Dec.{eqb}
-use lib.ListN.{length, getD, set, take, drop, length-set, length-drop}
+use lib.ListN.{length, getD, set, drop, length-set, length-drop}
 use lib.Pow.{pow-pos, pow-add, pow-mono}
 use lib.Seq.{getD-set-same, getD-set-other, getD-drop, ext-getD}
 use borrow.Author.Tests.{eqb-true, ne-eqb, eq-eqb}
 use Rattle.words.specs.Bit.{bit}
 use Rattle.words.specs.BitLaws.{bit-or, bit-zero, bit-of-zero, bit-high}
 use Rattle.words.specs.ShiftLaws.{bit-shl, bit-shl-low, bit-mod-high}
-use Rattle.words.specs.Cases.{lt-or-ge, same-or-not}
-use Rattle.words.specs.Map.{slot, marked}
+use Rattle.words.specs.Cases.{lt-or-ge}
+use Rattle.words.specs.Map.{slot}
 use Rattle.words.specs.MapLaws.{slot-lt, slot-past}
 use Rattle.words.specs.Next.{nextSet}
 use Rattle.words.specs.NextLaws.{next-below, next-none, next-cut, next-over, next-to}
 use Rattle.rings.specs.declared.Ring.{Ring}
 use Rattle.rings.specs.Ring.{Shape, wordOf, bitOf, ringBit}
 use Rattle.rings.specs.Columns.{colSlot, colWord, noneUsed, Strided, Loaded, Column}
-use Rattle.rings.specs.RingLaws.{shape-pos, word-lt, bitOf-lt, word-split, apart}
+use Rattle.rings.specs.RingLaws.{bitOf-lt, word-split, apart}
 
 -- ---- slots that are not used
 
@@ -171,7 +170,6 @@ module _ (g : Ring) (s : Shape g) (c : ℕ) where
   slot-cell : (q : ℕ) → colSlot (g .t) c ≤ q → q < colSlot (g .t) c + 64 * 2 ^ (g .t) → q ≡ colSlot (g .t) c + q % 2 ^ (g .t) + bitOf (g .t) q * 2 ^ (g .t)
   unfolding bitOf
   slot-cell q lo hi =
-      let y : ℕ = q / 2 ^ (g .t) in
       let a : 64 * c ≤ q / 2 ^ (g .t) = ⊎-elim (λ (h : q / 2 ^ (g .t) < 64 * c). absurd (omega (arith, div-add-mod q (2 ^ (g .t)), mod-lt q (pow-pos (g .t)), mul-le-mul-left (2 ^ (g .t)) h, step (q / 2 ^ (g .t)), low))) (λ (h : 64 * c ≤ q / 2 ^ (g .t)). h) (lt-or-ge (q / 2 ^ (g .t)) (64 * c)) in
       let b : q / 2 ^ (g .t) < 64 * c + 64 = ⊎-elim (λ (h : q / 2 ^ (g .t) < 64 * c + 64). h) (λ (h : 64 * c + 64 ≤ q / 2 ^ (g .t)). absurd (omega (arith, div-add-mod q (2 ^ (g .t)), mul-le-mul-left (2 ^ (g .t)) h, high))) (lt-or-ge (q / 2 ^ (g .t)) (64 * c + 64)) in
       let d : q / 2 ^ (g .t) ≡ 64 * c + q / 2 ^ (g .t) % 64 = omega arith in
@@ -233,7 +231,6 @@ module _ {g : Ring} (s : Shape g) {l bitmap : List ℕ} (c : ℕ) {after : List 
 
       clash : colWord g c ≤ wordOf (g .t) (g .words) q → wordOf (g .t) (g .words) q < colWord g c + 2 ^ (g .t) → ⊥
       clash lo hi =
-          let τ : ℕ = wordOf (g .t) (g .words) q - colWord g c in
           let ht : wordOf (g .t) (g .words) q - colWord g c < 2 ^ (g .t) = omega arith in
           let hb : bitOf (g .t) q < 64 = bitOf-lt (g .t) q in
           let z : ℕ = colSlot (g .t) c + (wordOf (g .t) (g .words) q - colWord g c) + bitOf (g .t) q * 2 ^ (g .t) in

@@ -4,7 +4,7 @@
 use mathlib.Core.Path.{_≡_, refl, sym, ap, _∙_}
 use mathlib.Core.Logic.{⊎-elim}
 use mathlib.Core.List.{List}
-use Prim.Native.Nat.{ℕ, zero, suc, _+_, _-_, _*_, _/_, _%_, _^_, _≤_, _<_, max}
+use Prim.Native.Nat.{ℕ, zero, suc, _+_, _-_, _*_, _/_, _%_, _^_, _≤_, _<_}
 use native.Mathlib.Omega.{arith}
 use native.Mathlib.Nat.{mul-le-mul-right}
 use lib.ListN.{length, getD, drop}
@@ -20,7 +20,7 @@ use Rattle.rings.specs.declared.Ring.{Ring}
 use Rattle.rings.specs.Ring.{Shape, ringBit}
 use Rattle.rings.specs.Keys.{slotAt, barBit, usedOf, freeAt}
 use Rattle.rings.specs.Parts.{part}
-use Rattle.rings.specs.Free.{FreeWord, FilledTo}
+use Rattle.rings.specs.Free.{FilledTo}
 use Rattle.rings.specs.FreeLaws.{used-none}
 
 -- ---- free rotations

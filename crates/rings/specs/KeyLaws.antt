@@ -1,10 +1,10 @@
 -- Ring keys: the code of `place_of` and `entry_of`, and what is known of places, entries and costs.
 -- Why: n 2^t divides 2^32, so the high half of a key does not show in a place, and the mask (n - 1) 2^t keeps the digits of the place.
 -- Assumes nothing.
-use mathlib.Core.Path.{_≡_, refl, sym, ap, ap₂, _∙_}
+use mathlib.Core.Path.{_≡_, refl, sym, ap, _∙_}
 use mathlib.Core.Logic.{⊎-elim}
 use mathlib.Core.List.{List}
-use Prim.Native.Nat.{ℕ, zero, suc, _+_, _-_, _*_, _/_, _%_, _^_, _≤_, _<_, min, max}
+use Prim.Native.Nat.{ℕ, _+_, _-_, _*_, _/_, _%_, _^_, _≤_, _<_, min}
 use native.Mathlib.Omega.{arith}
 use native.Mathlib.Nat.{mod-lt, mod-eq-of-lt, mod-add-mod, mul-le-mul-right, add-mul-div-right}
 use native.Mathlib.Numerals.{add-one}
@@ -21,7 +21,7 @@ use Rattle.rings.specs.declared.Ring.{Ring}
 use Rattle.rings.specs.Ring.{Shape, Word, ringBit, ringOf}
 use Rattle.rings.specs.Rows.{Ring64}
 use Rattle.rings.specs.Keys.{placeAt, entryAt, slotAt, Key, KeyRow, costTo, costAt}
-use Rattle.rings.specs.RingLaws.{n-pos, n-le, step-lt}
+use Rattle.rings.specs.RingLaws.{n-pos, step-lt}
 
 -- ---- places
 

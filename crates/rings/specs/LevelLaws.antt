@@ -2,7 +2,7 @@
 -- Why: first(b) rises by at most p a bucket, a key's slot is less than p + 1 + l past it, and the ring has more slots than 64·2^t + 256p + l + 1.
 -- Assumes nothing.
 use mathlib.Core.Path.{_≡_, refl, sym, ap, _∙_}
-use Prim.Native.Nat.{ℕ, suc, _+_, _-_, _*_, _/_, _%_, _^_, _≤_, _<_}
+use Prim.Native.Nat.{ℕ, _+_, _-_, _*_, _/_, _^_, _≤_, _<_}
 use native.Mathlib.Omega.{arith}
 use native.Mathlib.Nat.{le-trans, mul-le-mul-left, mul-le-mul-right, mul-div-cancel, div-lt-iff-lt-mul}
 use lib.Pow.{pow-pos, pow-add, pow-mono}
@@ -11,10 +11,9 @@ use Rattle.integers.specs.PowerLaws.{logUp-above, leastPower-above, leastPower-
 use Rattle.integers.specs.Division.{div-bounds, div-mono, ceil-bounds, pow-div}
 use Rattle.integers.specs.Shifts.{pow-le-cancel}
 use Rattle.rules.specs.declared.Settings.{Settings}
-use Rattle.rules.specs.Geometry.{sliceLen, logLen, slices, stride, ringLen, ringSlots, perBucket, quotient, first, bucketOf, position, entries}
+use Rattle.rules.specs.Geometry.{sliceLen, logLen, slices, stride, ringSlots, perBucket, quotient, first, bucketOf, position, entries}
 use Rattle.rules.specs.Good.{Good}
 use Rattle.rules.proofs.GeometryLaws.{len-high, stride-high, ring-pow, ring-len, entry-lt}
-use Rattle.rings.specs.declared.Ring.{Ring}
 use Rattle.rings.specs.Ring.{Shape}
 use Rattle.rings.specs.Place.{Within}
 use Rattle.rings.specs.Level.{levelRing}

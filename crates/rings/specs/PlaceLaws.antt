@@ -6,10 +6,10 @@ use mathlib.Core.Path.{_≡_, refl, sym, ap, _∙_}
 use mathlib.Core.Logic.{_≢_, _⊎_, ⊎-elim}
 use mathlib.Core.Bool.{Bool, true, false}
 use mathlib.Core.List.{List}
-use Prim.Native.Nat.{ℕ, zero, suc, _+_, _-_, _*_, _^_, _≤_, _<_}
+use Prim.Native.Nat.{ℕ, zero, suc, _+_, _-_, _≤_, _<_}
 use native.Mathlib.Omega.{arith}
 use native.Mathlib.Numerals.{add-one}
-use lib.ListN.{length, getD, take, drop}
+use lib.ListN.{length, getD, drop}
 use lib.Seq.{getD-drop}
 use Rattle.words.specs.Cases.{lt-or-ge, same-or-not}
 use Rattle.words.specs.Map.{Words, marked}
@@ -19,7 +19,7 @@ use Rattle.rings.specs.Ring.{Shape, ringBit}
 use Rattle.rings.specs.Keys.{slotAt, Key, Keys}
 use Rattle.rings.specs.Parts.{part, part-at, length-part}
 use Rattle.rings.specs.Marks.{ringMarked, ringUnmarked, Took}
-use Rattle.rings.specs.Place.{keySlot, markedTo, unmarkedTo, Fresh, MarkedUpTo, Met, Placed, Fitted, Within, mapTo, InMap}
+use Rattle.rings.specs.Place.{keySlot, markedTo, unmarkedTo, Fresh, MarkedUpTo, Met, Placed, Fitted, Within, mapTo}
 use Rattle.rings.specs.RingLaws.{ringBit-lt}
 use Rattle.rings.specs.MarkLaws.{length-mark, length-unmark, drop-mark, drop-unmark, mark-words, mark-same, mark-other, unmark-mark}
 

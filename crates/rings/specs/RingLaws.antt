@@ -6,7 +6,7 @@ use mathlib.Core.Logic.{⊎-elim}
 use mathlib.Core.List.{List}
 use Prim.Native.Nat.{ℕ, suc, _+_, _-_, _*_, _/_, _%_, _^_, _≤_, _<_}
 use native.Mathlib.Omega.{arith}
-use native.Mathlib.Nat.{mod-lt, mod-eq-of-lt, mod-add-mod, div-add-mod, mod-le, mul-le-mul-left, mul-le-mul-right}
+use native.Mathlib.Nat.{mod-lt, mod-eq-of-lt, div-add-mod, mod-le, mul-le-mul-left, mul-le-mul-right}
 use lib.Arith.{digits-div, digits-mod, mod-mul}
 use lib.ListN.{getD}
 use lib.Bits.{bitAnd, and-mask}
@@ -16,7 +16,7 @@ use Rattle.words.specs.ShiftLaws.{one-shl}
 use Rattle.words.specs.Cases.{lt-or-ge}
 use Rattle.integers.specs.Division.{mod-apart}
 use Rattle.rings.specs.declared.Ring.{Ring}
-use Rattle.rings.specs.Ring.{Shape, Word, wordOf, bitOf, ringBit}
+use Rattle.rings.specs.Ring.{Shape, wordOf, bitOf, ringBit}
 
 -- ---- where a slot lives
 

@@ -1,7 +1,7 @@
 // The ring as a cache of the bitmap: its columns are loaded as the stretch of slots moves on.
 ghost use mathlib.Core.Path.{_≡_};
 ghost use mathlib.Core.Bool.{true};
-ghost use Prim.Native.Nat.{ℕ, _+_, _*_, _^_, _<_, _≤_};
+ghost use Prim.Native.Nat.{_+_, _*_, _^_, _<_, _≤_};
 ghost use lib.ListN.{length, drop};
 ghost use Rattle.words.specs.Map.{slot};
 ghost use Rattle.rings.specs.Ring.{Shape};

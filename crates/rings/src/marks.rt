@@ -1,6 +1,6 @@
 // One slot of the ring marked and unmarked.
 ghost use mathlib.Core.Path.{_≡_};
-ghost use Prim.Native.Nat.{ℕ, _≤_};
+ghost use Prim.Native.Nat.{_≤_};
 ghost use lib.ListN.{length};
 ghost use Rattle.rings.specs.Ring.{Shape};
 ghost use Rattle.rings.specs.Marks.{ringUnmarked, Took};

@@ -1,3 +1,4 @@
+-- `column_word` is 0 where the column is known to be empty, and else the row gathered.
 use borrow.Author.Needs.{needs}
 use Rattle.rings.proofs.columns.column_word.Statement.{statement}
 use Rattle.rings.proofs.columns.column_word.Tie as tie

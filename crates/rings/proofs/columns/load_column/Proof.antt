@@ -1,3 +1,4 @@
+-- `load_column` loads the words that column c has in the ring, from those that it has in the bitmap.
 use mathlib.Core.Path.{_≡_}
 use Prim.Native.Nat.{_*_, _%_, _^_}
 use native.Mathlib.Omega.{arith}

@@ -1,10 +1,9 @@
+-- `load_rows` writes row after row; where no slot of the stretch is used each row is 0.
 use mathlib.Core.Path.{_≡_, sym, ap, _∙_}
-use mathlib.Core.Bool.{Bool, true}
-use mathlib.Core.List.{List}
 use Prim.Native.Nat.{ℕ, _+_, _-_, _*_, _%_, _^_, _≤_}
 use native.Mathlib.Omega.{arith}
 use borrow.Author.Needs.{needs}
-use lib.Pow.{pow-mono, pow-pos}
+use lib.Pow.{pow-mono}
 use Rattle.words.specs.ShiftLaws.{one-shl}
 use Rattle.rings.specs.Columns.{noneUsed, Loaded}
 use Rattle.rings.specs.ColumnLaws.{loaded-none, loaded-more, rows-empty}

@@ -1,5 +1,5 @@
-use mathlib.Core.Path.{_≡_, refl}
-use Prim.Native.Nat.{ℕ, _/_, _^_}
+-- `retire` loads the column one ring's length on in the place of the first one, so the ring stays a cache one column further.
+use mathlib.Core.Path.{refl}
 use native.Mathlib.Omega.{arith}
 use lib.Pow.{shr-le}
 use borrow.Author.Needs.{needs}

@@ -1,3 +1,4 @@
+-- `slot_bit` gives the slot's bit, by its definition, or 0 past the bitmap's end.
 use mathlib.Core.Path.{refl, sym}
 use native.Mathlib.Omega.{arith}
 use borrow.Author.Needs.{needs}

@@ -1,7 +1,7 @@
+-- `stride_word` gathers 64 slots 2^t apart, one bit after the other.
 use mathlib.Core.Path.{_≡_, ap, _∙_}
-use Prim.Native.Nat.{ℕ, _-_, _*_, _^_, _≤_}
+use Prim.Native.Nat.{_-_, _≤_}
 use native.Mathlib.Omega.{arith}
-use native.Mathlib.Nat.{mod-le}
 use borrow.Author.Needs.{needs}
 use Rattle.words.specs.Map.{slot}
 use Rattle.rings.specs.Columns.{Strided}

@@ -1,3 +1,4 @@
+-- `bar` gives the barred rotation: bit 0 of the first word of layout 0 where n = R, and nothing elsewhere.
 use Rattle.rings.specs.FreeLaws.{bar-layout, bar-word, bar-ring, bar-yes}
 use Rattle.rings.proofs.free.bar.Statement.{statement}
 use Rattle.rings.proofs.free.bar.Tie as tie

@@ -1,3 +1,4 @@
+-- `blocked` adds the keys' rows to the barred rotation, one key after the other.
 use native.Mathlib.Omega.{arith}
 use borrow.Author.Needs.{needs}
 use Prim.Native.Nat.{_≤_, _-_}

@@ -1,3 +1,4 @@
+-- `fill_free` fills layout after layout: what is filled stays, and the totals add up.
 use native.Mathlib.Omega.{arith}
 use borrow.Author.Needs.{needs}
 use Prim.Native.Nat.{_-_}

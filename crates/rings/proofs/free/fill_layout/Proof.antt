@@ -1,3 +1,4 @@
+-- `fill_layout` writes the free words of a layout: they go above the ring and the keys, so each word is told by the list at entry.
 use lib.Seq.{length-take-le}
 use lib.Count.{ones-le}
 use mathlib.Core.Path.{_≡_, sym, refl}

@@ -1,3 +1,4 @@
+-- `free_word` gives the complement of what is blocked, cut to n bits where n is below 64.
 use native.Mathlib.Omega.{arith}
 use borrow.Author.Needs.{needs}
 use Rattle.rings.specs.FreeLaws.{free-short, free-long}

@@ -1,3 +1,4 @@
+-- `take_slot` marks a slot that was free, and leaves the ring where it was not.
 use borrow.Author.Needs.{needs}
 use mathlib.Core.Path.{sym, _∙_}
 use Rattle.rings.specs.MarkLaws.{ring-test-code, ring-mark-code, took-no, took-yes}

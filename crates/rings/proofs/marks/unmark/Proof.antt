@@ -1,3 +1,4 @@
+-- `unmark` clears the slot's bit of its word.
 use borrow.Author.Needs.{needs}
 use Rattle.rings.specs.MarkLaws.{ring-clear-code}
 use Rattle.rings.proofs.marks.unmark.Statement.{statement}

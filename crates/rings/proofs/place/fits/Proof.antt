@@ -1,3 +1,4 @@
+-- `fits` is a place that is taken back.
 use native.Mathlib.Omega.{arith}
 use Prim.Native.Nat.{ℕ}
 use mathlib.Core.Path.{_≡_, _∙_, ap}

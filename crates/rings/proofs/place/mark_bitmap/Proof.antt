@@ -1,9 +1,9 @@
-use mathlib.Core.Path.{_≡_, ap, _∙_}
+-- `mark_bitmap` marks key after key in the bitmap.
+use mathlib.Core.Path.{_≡_}
 use Prim.Native.Nat.{_-_}
 use native.Mathlib.Omega.{arith}
 use lib.ListN.{length}
 use borrow.Author.Needs.{needs}
-use Rattle.rings.specs.Place.{mapTo}
 use Rattle.rings.specs.PlaceLaws.{Mapping, mapping-none, mapping-more}
 use Rattle.rings.proofs.place.mark_bitmap.Statement.{statement}
 use Rattle.rings.proofs.place.mark_bitmap.Tie as tie

@@ -1,3 +1,4 @@
+-- `mark_keys` marks key after key up to one whose slot is marked already; the keys lie above the ring, so no mark changes them.
 use borrow.Author.Tests.{not-true, not-false}
 use native.Mathlib.Omega.{arith}
 use borrow.Author.Needs.{needs}

@@ -1,3 +1,4 @@
+-- `place` marks all or nothing: marks that found their slots free, taken back, leave the list as it was.
 use native.Mathlib.Omega.{arith}
 use Prim.Native.Nat.{ℕ}
 use mathlib.Core.Path.{_≡_, _∙_, ap}

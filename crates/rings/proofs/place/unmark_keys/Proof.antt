@@ -1,3 +1,4 @@
+-- `unmark_keys` unmarks from the last key to the first; the keys lie above the ring, so no mark changes them.
 use native.Mathlib.Omega.{arith}
 use borrow.Author.Needs.{needs}
 use mathlib.Core.Path.{_≡_, sym, _∙_}
