@@ -15,10 +15,10 @@ low-bits-requires : tie.Need-low-bits-requires
 low-bits-requires c κs = search needs
 
 returns : tie.Need-returns
-returns c = free-short (omega arith) (c .before .if1 .taken) (c .before .before .blocked .ensures) (c .low-bits .ensures)
+returns c = free-short (omega arith) (omega arith) (c .before .before .blocked .ensures) (c .low-bits .ensures)
 
 returns-2 : tie.Need-returns-2
-returns-2 c = free-long (omega arith) (c .if1 .left) (c .before .blocked .ensures)
+returns-2 c = free-long (omega arith) (omega arith) (c .before .blocked .ensures)
 
 pub free-word-spec : {M : Type 1} → statement M
 free-word-spec = tie.close (tie.spec blocked-requires sub-f low-bits-requires returns returns-2)

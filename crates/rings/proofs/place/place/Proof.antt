@@ -25,7 +25,7 @@ unmark-keys-requires c κs =
     let m = c .before .before .before .before .mark-keys in
     let e : part (m .last .1 .0) (s .args .at) (s .args .size) ≡ part (s .args .work .now) (s .args .at) (s .args .size) =
     part-markedTo (s .args .g) (s .pre .0) _ _ _ _ _ (s .args .at) (s .args .size) (s .pre .1 .0 .0) (m .ensures .is) in
-    (s .pre .0, ((s .pre .1 .0 .0, omega (arith, m .kept), m .ensures .le), (rw e (s .pre .1 .1 .0), s .pre .1 .1 .1)))
+    (s .pre .0, ((s .pre .1 .0 .0, omega (arith, m .kept), omega (arith, m .ensures .le)), (rw e (s .pre .1 .1 .0), s .pre .1 .1 .1)))
 
 same-length-2 : tie.Need-same-length-2
 same-length-2 c = search needs

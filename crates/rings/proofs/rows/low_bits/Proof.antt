@@ -12,10 +12,10 @@ shl-result : tie.Need-shl-result
 shl-result c = search needs
 
 sub-result : tie.Need-sub-result
-sub-result c = one-shl-pos 64 _ (c .if1 .taken)
+sub-result c = one-shl-pos 64 _ (omega arith)
 
 returns : tie.Need-returns
-returns c = and-low 64 _ _ (c .if1 .taken)
+returns c = and-low 64 _ _ (omega arith)
 
 returns-2 : tie.Need-returns-2
 returns-2 c =
