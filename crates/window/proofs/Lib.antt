@@ -1,0 +1,7 @@
+-- The laws of the window.
+pub mod Members
+pub mod KeyLaws
+pub mod AscLaws
+pub mod QueueLaws
+pub mod HeapLaws
+pub mod CyclicLaws

@@ -1,0 +1,5 @@
+-- What the contracts of `window` cite.
+pub mod Key
+pub mod Queues
+pub mod Cyclic
+pub mod Window
