@@ -5,3 +5,6 @@ pub mod AscLaws
 pub mod QueueLaws
 pub mod HeapLaws
 pub mod CyclicLaws
+pub mod Later
+pub mod Drawn
+pub mod WindowLaws

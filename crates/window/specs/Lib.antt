@@ -3,3 +3,4 @@ pub mod Key
 pub mod Queues
 pub mod Cyclic
 pub mod Window
+pub mod Changes

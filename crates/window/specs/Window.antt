@@ -1,12 +1,11 @@
 -- Where the window stands after k turns of rule W's order over the buckets from lo up to hi. Assumes nothing.
 use mathlib.Core.Path.{_≡_}
-use mathlib.Core.Bool.{Bool, false}
+use mathlib.Core.Bool.{Bool}
 use mathlib.Core.Logic.{_⊎_}
 use mathlib.Core.List.{List, [], _∷_, _++_, map}
 use Prim.Native.Nat.{ℕ, _+_, _-_, _<_, _≤_, _%_, min}
 use lib.Dec.{T, eqb, leb}
 use lib.IntN.{ℤ, pos}
-use lib.Signed.{ltZ}
 use lib.ListN.{length, getD, take, drop}
 use Rattle.words.specs.Bit.{bit}
 use Rattle.words.specs.Map.{slot}
@@ -27,16 +26,11 @@ pub record State : Type 0 where
   pub oldest : ℕ
   pub next : ℕ
 
+abbrev pub stateAt : Queues → (set : List ℕ) → (large : List ℤ) → (count oldest next : ℕ) → State
+stateAt q set large count oldest next = record { queues = q; set = set; large = large; count = count; oldest = oldest; next = next }
+
 abbrev pub state : List (List ℕ) → List ℕ → List ℕ → List ℤ → List ℕ → List ℤ → View → State
-state rows heads lengths keys set large v =
-    record {
-      queues = queuesOf rows heads lengths keys (v .nonempty);
-      set = set;
-      large = large;
-      count = v .large;
-      oldest = v .oldest;
-      next = v .next;
-    }
+state rows heads lengths keys set large v = stateAt (queuesOf rows heads lengths keys (v .nonempty)) set large (v .large) (v .oldest) (v .next)
 
 -- begins are those of i, none of its first hi buckets ends before it begins or has more than 4,096 keys, and the table has the weights:
 -- what checks 8 to 10 leave
@@ -162,20 +156,3 @@ pub record Filled (begins : List ℕ) (table : List ℤ) (hi : ℕ) (s : State) 
   pub k : ℕ
   pub ranged : Ranged i begins table hi
   pub full : Full i lo hi k s
-
--- b is in W, and nothing of W has a greater key
-pub record Foremost (i : Input) (W : List ℕ) (b : ℕ) : Type 0 where
-  pub there : T (elem b W)
-  pub first : (x : ℕ) → T (elem x W) → ltZ (bucketKey i b) (bucketKey i x) ≡ false
-
--- what a pop asks and leaves: the queues and the heap have the buckets W, within 256 of o
-pub record Loaded (i : Input) (table : List ℤ) (q : Queues) (large : List ℤ) (n o : ℕ) (W : List ℕ) : Type 0 where
-  pub e : ℕ
-  pub asc : Asc o e W
-  pub narrow : e ≤ o + 256
-  pub low : e ≤ 67108865
-  pub some : (x : ℕ) → T (elem x W) → 1 ≤ sizeOf i x
-  pub queued : Queued i q W
-  pub heaped : Heaped i large n W
-  pub within : Within (i .weights)
-  pub weights : Table (i .weights) table
