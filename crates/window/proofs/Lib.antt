@@ -8,3 +8,4 @@ pub mod CyclicLaws
 pub mod Later
 pub mod Drawn
 pub mod WindowLaws
+pub mod Tops

@@ -1,3 +1,6 @@
+pub mod rule;
+pub mod queues;
+
 // Where the window stands: its oldest bucket, the next one to enter, the sizes below 64 that it has, and how many
 // buckets of 64 keys and more.
 pub struct View {
