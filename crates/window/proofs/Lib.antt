@@ -9,3 +9,4 @@ pub mod Later
 pub mod Drawn
 pub mod WindowLaws
 pub mod Tops
+pub mod Chosen

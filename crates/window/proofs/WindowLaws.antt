@@ -28,7 +28,9 @@ use Rattle.rules.proofs.Counting.{length-remove}
 use Rattle.rules.proofs.TurnLaws.{strict-order}
 use Rattle.window.specs.Key.{keyOf, bucketKey, beyondOf, Within, Table}
 use Rattle.window.specs.Queues.{Queues, queuesOf, pushed}
+use Rattle.groups.specs.Groups.{sizeIn}
 use Rattle.window.specs.Cyclic.{FirstIn}
+use Rattle.window.specs.Skip.{Skipped}
 use Rattle.window.specs.Changes.{Enterable, Entered, Popping, Poppable}
 use Rattle.window.specs.Window.{State, stateAt, Ranged, Asc, hasSize, isLarge, Queued, Heaped, Marks, Holds, Window, Headed, Windowed, Full, Turned}
 use Rattle.window.proofs.Members.{elem-here, elem-there, elem-cases, append-cases, append-left, filter-in, in-filter, removed-in, remove-append, elem-long}
@@ -123,6 +125,11 @@ start i lo hi l =
 
 -- ---- push, pass, skip
 module _ (i : Input) (begins : List ℕ) (table : List ℤ) (hi : ℕ) (g : Ranged i begins table hi) where
+  -- the size that the code reads
+  pub size-is : (b : ℕ) → sizeIn begins b ≡ sizeOf i b
+  unfolding sizeOf
+  size-is b = ap (λ (l : List ℕ). sizeIn l b) (sym (g .same))
+
   -- the key that the code makes is the bucket's
   table-key : (b : ℕ) → 1 ≤ sizeOf i b → sizeOf i b < 64 → keyOf (getD table (sizeOf i b) (pos 0)) b ≡ bucketKey i b
   unfolding bucketKey
@@ -145,15 +152,14 @@ module _ (i : Input) (begins : List ℕ) (table : List ℤ) (hi : ℕ) (g : Rang
     room : length (w .inside) < 256
     room = omega (arith, asc-room o b (w .inside) (w .holds .asc))
 
-    pub enterable : 1 ≤ sizeOf i b → Enterable table q set large n b (sizeOf i b)
-    enterable some =
+    enterable-own : Enterable table q set large n b (sizeOf i b)
+    enterable-own =
         record {
-          some = some;
           sized = g .sizes b low;
           low = omega (arith, g .few);
           slots = w .holds .marks .long;
           room = λ l. push-room i q o b (w .inside) b (sizeOf i b) (w .holds .queued) (w .holds .asc) l (omega arith) near refl;
-          weight = λ l. subst (λ (z : ℤ). natAbs z ≤ 2 ^ 40) (sym (g .weights .entry (sizeOf i b) some l)) (weight-bound (i .weights) (sizeOf i b) (g .within));
+          weight = λ some l. subst (λ (z : ℤ). natAbs z ≤ 2 ^ 40) (sym (g .weights .entry (sizeOf i b) some l)) (weight-bound (i .weights) (sizeOf i b) (g .within));
           kept = w .holds .heaped .kept;
           few = omega (arith, w .holds .heaped .counted, asc-room o b (filter (isLarge i) (w .inside)) (asc-filter (isLarge i) o b (w .inside) (w .holds .asc)));
           sixth = subst (λ (z : ℤ). natAbs z ≤ 2 ^ 32) (sym sixth) (g .within .within 5);
@@ -166,7 +172,7 @@ module _ (i : Input) (begins : List ℕ) (table : List ℤ) (hi : ℕ) (g : Rang
       in-queues =
           ⊎-elim
           (λ (l : sizeOf i b < 64).
-          subst (λ (s : Queues). Queued i s (w .inside ++ (b ∷ []))) (sym (t .queue l .0 ∙ ap (λ (key : ℤ). pushed q key b (sizeOf i b)) (table-key b some l)))
+          subst (λ (s : Queues). Queued i s (w .inside ++ (b ∷ []))) (sym (t .queue some l .0 ∙ ap (λ (key : ℤ). pushed q key b (sizeOf i b)) (table-key b some l)))
           (push-queued i q o b (w .inside) b (sizeOf i b) (w .holds .queued) (w .holds .asc) l (omega arith) near refl))
           (λ (l : 64 ≤ sizeOf i b). subst (λ (s : Queues). Queued i s (w .inside ++ (b ∷ []))) (sym (t .heap l .0)) (pass-queued i q (w .inside) b (w .holds .queued) l))
           (lt-or-ge (sizeOf i b) 64)
@@ -175,14 +181,14 @@ module _ (i : Input) (begins : List ℕ) (table : List ℤ) (hi : ℕ) (g : Rang
       in-heap =
           ⊎-elim
           (λ (l : sizeOf i b < 64).
-          subst (λ (a : List ℤ). Heaped i a n′ (w .inside ++ (b ∷ []))) (sym (t .queue l .1 .0))
-          (subst (λ (m : ℕ). Heaped i large m (w .inside ++ (b ∷ []))) (sym (t .queue l .1 .1)) (pass-heaped i large n (w .inside) b (w .holds .heaped) l)))
+          subst (λ (a : List ℤ). Heaped i a n′ (w .inside ++ (b ∷ []))) (sym (t .queue some l .1 .0))
+          (subst (λ (m : ℕ). Heaped i large m (w .inside ++ (b ∷ []))) (sym (t .queue some l .1 .1)) (pass-heaped i large n (w .inside) b (w .holds .heaped) l)))
           (λ (l : 64 ≤ sizeOf i b).
           subst (λ (m : ℕ). Heaped i large′ m (w .inside ++ (b ∷ []))) (sym (t .heap l .1 .0))
           (put-heaped i large large′ n (w .inside) b (keyOf (beyondOf (getD table 6 (pos 0)) (getD table 7 (pos 0)) (sizeOf i b)) b) (w .holds .heaped) l (large-key b l) (t .heap l .1 .1 .0) (t .heap l .1 .1 .1)))
           (lt-or-ge (sizeOf i b) 64)
 
-      pub push : Window i lo hi k (stateAt q′ set′ large′ n′ o (b + 1)) rest
+      push : Window i lo hi k (stateAt q′ set′ large′ n′ o (b + 1)) rest
       push =
           record {
             inside = w .inside ++ (b ∷ []);
@@ -194,7 +200,7 @@ module _ (i : Input) (begins : List ℕ) (table : List ℤ) (hi : ℕ) (g : Rang
               some = λ x u. ⊎-elim (λ (v : T (elem x (w .inside))). w .holds .some x v) (λ (v : T (elem x (b ∷ []))). subst (λ (y : ℕ). 1 ≤ sizeOf i y) (sym (only x v)) some) (append-cases x (w .inside) (b ∷ []) u);
               queued = in-queues;
               heaped = in-heap;
-              marks = subst (λ (s : List ℕ). Marks s (w .inside ++ (b ∷ []))) (sym (t .marks)) (marks-push set b (w .inside) (w .holds .marks));
+              marks = subst (λ (s : List ℕ). Marks s (w .inside ++ (b ∷ []))) (sym (t .marks some)) (marks-push set b (w .inside) (w .holds .marks));
             };
             start = w .start;
             end = omega arith;
@@ -204,7 +210,7 @@ module _ (i : Input) (begins : List ℕ) (table : List ℤ) (hi : ℕ) (g : Rang
           only x u = ⊎-elim (λ (e : x ≡ b). e) (λ (v : T (elem x [])). absurd v) (elem-cases x b [] u)
 
     -- an empty bucket is passed by
-    pub pass : sizeOf i b ≡ 0 → Window i lo hi k (stateAt q set large n o (b + 1)) rest
+    pass : sizeOf i b ≡ 0 → Window i lo hi k (stateAt q set large n o (b + 1)) rest
     pass z =
         record {
           inside = w .inside;
@@ -222,15 +228,36 @@ module _ (i : Input) (begins : List ℕ) (table : List ℤ) (hi : ℕ) (g : Rang
           end = omega arith;
         }
 
+    pub enterable : (size : ℕ) → size ≡ sizeIn begins b → Enterable table q set large n b size
+    enterable size e = subst (λ (x : ℕ). Enterable table q set large n b x) (sym (e ∙ size-is b)) enterable-own
+
+    pub enters : (size : ℕ) → size ≡ sizeIn begins b → (q′ : Queues) (set′ : List ℕ) (large′ : List ℤ) (n′ : ℕ) → Entered table q set large n b size q′ set′ large′ n′
+        → Window i lo hi k (stateAt q′ set′ large′ n′ o (b + 1)) rest
+    enters size s q′ set′ large′ n′ t = by (subst (λ (x : ℕ). Entered table q set large n b x q′ set′ large′ n′) (s ∙ size-is b) t)
+      where
+        by : Entered table q set large n b (sizeOf i b) q′ set′ large′ n′ → Window i lo hi k (stateAt q′ set′ large′ n′ o (b + 1)) rest
+        by t =
+            ⊎-elim
+            (λ (z : sizeOf i b ≡ 0).
+            let e = t .empty z in
+            subst (λ (x : Queues). Window i lo hi k (stateAt x set′ large′ n′ o (b + 1)) rest) (sym (e .0))
+            (subst (λ (x : List ℕ). Window i lo hi k (stateAt q x large′ n′ o (b + 1)) rest) (sym (e .1 .0))
+            (subst (λ (x : List ℤ). Window i lo hi k (stateAt q set x n′ o (b + 1)) rest) (sym (e .1 .1 .0))
+            (subst (λ (x : ℕ). Window i lo hi k (stateAt q set large x o (b + 1)) rest) (sym (e .1 .1 .1)) (pass z)))))
+            (λ d. push (omega arith) q′ set′ large′ n′ t)
+            (same-or-not (sizeOf i b) 0)
+
   -- an empty window moves to the next bucket with keys
-  pub skip : (lo k : ℕ) (s : State) (r : ℕ) (h : Windowed i lo hi k s) → s .queues .nonempty ≡ 0 → s .count ≡ 0
-      → s .next ≤ r → r ≤ hi → ((b : ℕ) → s .next ≤ b → b < r → sizeOf i b ≡ 0) → (r < hi → 1 ≤ sizeOf i r)
+  pub skip : (lo k : ℕ) (s : State) (r : ℕ) (h : Windowed i lo hi k s) → s .queues .nonempty ≡ 0 → s .count ≡ 0 → Skipped begins (s .next) hi r
       → Window i lo hi k (stateAt (s .queues) (s .set) (s .large) (s .count) r r) (h .rest) × ((h .rest ≡ []) ⊎ Headed r (h .rest))
-  skip lo k s r h z m from to none some =
+  skip lo k s r h z m sk =
+      let from = sk .low in
+      let to = sk .high in
+      let some : r < hi → 1 ≤ sizeOf i r = λ l. pos-of (sizeOf i r) (λ (e : sizeOf i r ≡ 0). sk .some l (size-is r ∙ e)) in
       let w = h .window in
       let empty = nothing-in i (s .queues) (s .large) (s .count) (s .oldest) (s .next) (w .inside) (w .holds .asc) (w .holds .queued) (w .holds .heaped) z m in
       let same : nonempty i (s .next) hi ≡ nonempty i r hi =
-      later-skip i hi (r - s .next) (s .next) (omega arith) (λ b l p. none b l (omega arith)) ∙ ap (λ (e : ℕ). nonempty i e hi) (omega arith) in
+      later-skip i hi (r - s .next) (s .next) (omega arith) (λ b l p. sym (size-is b) ∙ sk .none b l (omega arith)) ∙ ap (λ (e : ℕ). nonempty i e hi) (omega arith) in
       let all : nonempty i r hi ≡ h .rest = sym same ∙ ap (λ (l : List ℕ). l ++ nonempty i (s .next) hi) (sym empty) ∙ w .whole in (
         record {
           inside = [];
@@ -251,6 +278,9 @@ module _ (i : Input) (begins : List ℕ) (table : List ℤ) (hi : ℕ) (g : Rang
             (λ (l : hi ≤ r). inl (sym all ∙ later-end i r hi l))
             (lt-or-ge r hi),
       )
+    where
+      pos-of : (x : ℕ) → (x ≡ 0 → ⊥) → 1 ≤ x
+      pos-of x n = omega arith
 
   -- a window with buckets has its oldest at the head of what is left
   pub stays-headed : (lo k : ℕ) (s : State) (h : Windowed i lo hi k s) → s .queues .nonempty < 2 ^ 64 → ((s .queues .nonempty ≡ 0) × (s .count ≡ 0) → ⊥) → (h .rest ≡ []) ⊎ Headed (s .oldest) (h .rest)

@@ -13,23 +13,23 @@ use Rattle.heap.specs.Ordered.{Kept}
 use Rattle.window.specs.Key.{keyOf, beyondOf}
 use Rattle.window.specs.Queues.{Queues, pushed, shifted, headOf, Top}
 
--- there is room for bucket b of the given size
+-- there is room for bucket b of the given size, which may be 0
 pub record Enterable (table : List ℤ) (q : Queues) (set : List ℕ) (large : List ℤ) (n b size : ℕ) : Type 0 where
-  pub some : 1 ≤ size
   pub sized : size ≤ 4096
   pub low : b < 134217728
   pub slots : length set ≡ 16
   pub room : size < 64 → getD (q .lengths) size 0 < 256
-  pub weight : size < 64 → natAbs (getD table size (pos 0)) ≤ 2 ^ 40
+  pub weight : 1 ≤ size → size < 64 → natAbs (getD table size (pos 0)) ≤ 2 ^ 40
   pub kept : Kept large n
   pub few : n < 256
   pub sixth : natAbs (getD table 6 (pos 0)) ≤ 2 ^ 32
   pub seventh : natAbs (getD table 7 (pos 0)) ≤ 2 ^ 32
 
--- it has entered
+-- it has entered; an empty one stays out
 pub record Entered (table : List ℤ) (q : Queues) (set : List ℕ) (large : List ℤ) (n b size : ℕ) (q′ : Queues) (set′ : List ℕ) (large′ : List ℤ) (n′ : ℕ) : Type 0 where
-  pub marks : set′ ≡ marked set (b % 1024)
-  pub queue : size < 64 → (q′ ≡ pushed q (keyOf (getD table size (pos 0)) b) b size) × ((large′ ≡ large) × (n′ ≡ n))
+  pub empty : size ≡ 0 → (q′ ≡ q) × ((set′ ≡ set) × ((large′ ≡ large) × (n′ ≡ n)))
+  pub marks : 1 ≤ size → set′ ≡ marked set (b % 1024)
+  pub queue : 1 ≤ size → size < 64 → (q′ ≡ pushed q (keyOf (getD table size (pos 0)) b) b size) × ((large′ ≡ large) × (n′ ≡ n))
   pub heap :
       64 ≤ size
       → (q′ ≡ q)

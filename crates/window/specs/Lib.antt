@@ -2,5 +2,6 @@
 pub mod Key
 pub mod Queues
 pub mod Cyclic
+pub mod Skip
 pub mod Window
 pub mod Changes

@@ -35,11 +35,12 @@ sub-result c = rw (masked (c .args .key)) (omega arith)
 -- src/lib.rt:221:1
 returns : tie.Need-returns
 returns c =
-    rw (masked (c .args .key))
-    (omega arith,
-    λ w b e.
-    let l = low-of (c .args .key) (up (w -ℤ pos (1024 * b))) (dn (w -ℤ pos (1024 * b))) (1023 - b % 1024) (rw e (key-is w b)) (omega arith) (c .fits .key .sfits) in
-    omega arith)
+    rw (masked (c .args .key)) (
+      omega arith,
+      λ w b e.
+          let l = low-of (c .args .key) (up (w -ℤ pos (1024 * b))) (dn (w -ℤ pos (1024 * b))) (1023 - b % 1024) (rw e (key-is w b)) (omega arith) (c .fits .key .sfits) in
+          omega arith,
+    )
 
 pub place-of-spec : {M : Type 1} → statement M
 place-of-spec = tie.close (tie.spec cast-low sub-result returns)
