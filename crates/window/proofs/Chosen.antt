@@ -39,11 +39,12 @@ module _ (keys : List ℤ) (nonempty : ℕ) (large : List ℤ) (n : ℕ) where
             high = omega arith;
             queue = λ m. absurd (omega arith);
             heap =
-                λ e.
-                (p,
-                λ t m on z f.
-                key-chain z l (getD keys t (pos 0)) (f .top l (g .there))
-                (key-chain l (getD keys r (pos 0)) (getD keys t (pos 0)) (key-after (getD keys r (pos 0)) l h) (top .greatest t m on)));
+                λ e. (
+                  p,
+                  λ t m on z f.
+                      key-chain z l (getD keys t (pos 0)) (f .top l (g .there))
+                      (key-chain l (getD keys r (pos 0)) (getD keys t (pos 0)) (key-after (getD keys r (pos 0)) l h) (top .greatest t m on)),
+                );
           }
 
       pub queue-wins : ltZ (getD keys r (pos 0)) l ≡ false → Choice keys nonempty large n r

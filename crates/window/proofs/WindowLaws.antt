@@ -2,12 +2,12 @@
 -- the window, keys have rule W's order, and no two buckets of a window have one key: so it is the bucket of turn k. Assumes nothing.
 use mathlib.Core.Path.{_≡_, refl, sym, ap, ap₂, _∙_, subst}
 use mathlib.Core.Logic.{_⊎_, inl, inr, ⊎-elim}
-use mathlib.Core.Bool.{Bool, true, false, not, cond}
+use mathlib.Core.Bool.{Bool, true, false, not, cond, _&&_}
 use mathlib.Core.List.{List, [], _∷_, _++_, append-assoc, head-eq-of-cons-eq, tail-eq-of-cons-eq, List·Memᴰ}
 use Prim.Native.Nat.{ℕ, zero, suc, _+_, _-_, _*_, _%_, _^_, _<_, _≤_, min}
 use native.Mathlib.Omega.{arith}
 use native.Mathlib.Numerals.{add-one}
-use borrow.Author.Tests.{eq-eqb, ne-eqb, ltb-true, lt-ltb}
+use borrow.Author.Tests.{eq-eqb, ne-eqb, eqb-true, eqb-false, ltb-true, lt-ltb}
 use lib.Dec.{T, ltb, eqb}
 use lib.IntN.{ℤ, pos, natAbs}
 use lib.Signed.{ltZ}
@@ -58,6 +58,23 @@ drop-none : (l : List ℕ) (k : ℕ) → drop k l ≡ [] → length l ≤ k
 drop-none [] k e = omega arith
 drop-none (x ∷ l) zero e = absurd (let z = ap length e in omega arith)
 drop-none (x ∷ l) (suc k) e = omega (arith, drop-none l k e)
+
+-- ---- the code's test of an empty window
+pub is-empty : (p q : ℕ) → (eqb p 0 && eqb q 0) ≡ true → (p ≡ 0) × (q ≡ 0)
+is-empty p q h = by (eqb p 0) (eqb q 0) refl refl h
+  where
+    by : (t u : Bool) → eqb p 0 ≡ t → eqb q 0 ≡ u → (t && u) ≡ true → (p ≡ 0) × (q ≡ 0)
+    by true true a b h = (eqb-true p 0 a, eqb-true q 0 b)
+    by true false a b h = absurd (subst T (sym h) tt)
+    by false u a b h = absurd (subst T (sym h) tt)
+
+pub not-empty : (p q : ℕ) → (eqb p 0 && eqb q 0) ≡ false → p ≡ 0 → 0 < q
+not-empty p q h z = by (eqb p 0) (eqb q 0) refl refl h
+  where
+    by : (t u : Bool) → eqb p 0 ≡ t → eqb q 0 ≡ u → (t && u) ≡ false → 0 < q
+    by true true a b h = absurd (subst T h tt)
+    by true false a b h = omega (arith, eqb-false q 0 b)
+    by false u a b h = absurd (eqb-false p 0 a z)
 
 -- ---- what the checks leave
 -- a sound input, and the table of its weights
@@ -283,14 +300,17 @@ module _ (i : Input) (begins : List ℕ) (table : List ℤ) (hi : ℕ) (g : Rang
       pos-of x n = omega arith
 
   -- a window with buckets has its oldest at the head of what is left
-  pub stays-headed : (lo k : ℕ) (s : State) (h : Windowed i lo hi k s) → s .queues .nonempty < 2 ^ 64 → ((s .queues .nonempty ≡ 0) × (s .count ≡ 0) → ⊥) → (h .rest ≡ []) ⊎ Headed (s .oldest) (h .rest)
+  pub stays-headed : (lo k : ℕ) (s : State) (h : Windowed i lo hi k s) → s .queues .nonempty < 2 ^ 64 → (s .queues .nonempty ≡ 0 → 0 < s .count) → (h .rest ≡ []) ⊎ Headed (s .oldest) (h .rest)
   stays-headed lo k s h l n =
-      ⊎-elim (λ (e : h .window .inside ≡ []). absurd (n (none-in i (s .queues) (s .large) (s .count) (h .window .inside) (h .window .holds .queued) (h .window .holds .heaped) l e)))
+      ⊎-elim (λ (e : h .window .inside ≡ []). absurd (let z = none-in i (s .queues) (s .large) (s .count) (h .window .inside) (h .window .holds .queued) (h .window .holds .heaped) l e in omega (arith, z .1, n (z .0))))
       (λ (t : Headed (s .oldest) (h .rest)). inr t) (h .oldest)
 
 -- ---- pop
 module _ (i : Input) (begins : List ℕ) (table : List ℤ) (hi : ℕ) (g : Ranged i begins table hi) (lo k : ℕ) (q : Queues) (set : List ℕ) (large : List ℤ) (n o e : ℕ)
     (f : Full i lo hi k (stateAt q set large n o e)) where
+  pub reaches : (o ≤ e) × (e ≤ 67108865)
+  reaches = let r = asc-room o e (f .window .inside) (f .window .holds .asc) in (omega arith, omega (arith, f .window .end, g .few))
+
   -- a bucket can be taken where the window has one
   pub ready : (q .nonempty ≡ 0 → 0 < n) → Poppable table q large n o
   ready present =

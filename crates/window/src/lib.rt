@@ -1,7 +1,7 @@
 ghost use mathlib.Core.Path.{_≡_};
 ghost use mathlib.Core.Bool.{_&&_};
 ghost use mathlib.Core.List.{List};
-ghost use Prim.Native.Nat.{ℕ, _+_, _≤_, _<_, min};
+ghost use Prim.Native.Nat.{ℕ, _+_, _≤_, _<_, _^_, min};
 ghost use lib.Dec.{eqb};
 ghost use Rattle.rules.specs.Order.{Input};
 ghost use Rattle.heap.specs.Ordered.{Kept};
@@ -49,6 +49,7 @@ pub struct Popped {
 // Whether the window has no bucket.
 pub fn is_empty(v: View) -> bool
     ensures { λ r. ⌜ r ≡ (eqb (v .nonempty) 0 && eqb (v .large) 0) ⌝ }
+    ensures { λ r. ⌜ v .nonempty < 2 ^ 64 ⌝ }
 {
     v.nonempty == 0 && v.large == 0
 }
@@ -177,8 +178,8 @@ pub fn refill(
         let moved = View {
             oldest: o,
             next: o,
-            nonempty: 0,
-            large: 0,
+            nonempty: view.nonempty,
+            large: view.large,
         };
         return fill(
             queues,

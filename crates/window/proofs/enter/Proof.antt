@@ -114,11 +114,16 @@ returns-3 c =
       marks = λ l. c .before .before .before .before .before .before .before .set-bit .ensures;
       queue = λ p l. absurd (omega (arith, c .before .before .before .before .before .before .if2 .left));
       heap =
-          λ l.
-          (refl,
-          (refl,
-          (c .put .ensures .0,
-          λ (z : ℤ). c .put .ensures .1 z ∙ ap (λ (v : ℤ). copies z (take (c .before .before .before .before .before .before .before .before .before .before .args .n) (now (c .before .before .before .before .before .before .before .before .before .before .args .large))) + one z v) (key-back (c .before .before)))));
+          λ l. (
+            refl,
+            (
+              refl,
+              (
+                c .put .ensures .0,
+                λ (z : ℤ). c .put .ensures .1 z ∙ ap (λ (v : ℤ). copies z (take (c .before .before .before .before .before .before .before .before .before .before .args .n) (now (c .before .before .before .before .before .before .before .before .before .before .args .large))) + one z v) (key-back (c .before .before)),
+              ),
+            ),
+          );
     }
 
 pub enter-spec : {M : Type 1} → statement M

@@ -78,12 +78,13 @@ loop-again c =
     let s = c .before .before .before .before .before .before .before .before .before .before .before in
     let l = c .before .before .before .before .before .before .before .before .loop in
     let t = c .before .before .before .before .before .before .before .loop-test .taken in
-    let m = c .before .before .before .before .before .before .before .before .before .smaller .ensures in
-    (omega arith,
-    λ i lo k rest g w.
-    enters i (now (s .args .begins)) (now (s .args .table)) (s .args .hi) g lo k
-    (queuesOf (l .queues) (now (s .args .heads)) (l .lengths) (l .keys) (l .on)) (l .set) (l .large) (l .n) (s .args .view .oldest) (l .b) rest
-    (l .inv .1 i lo k rest g w) (omega arith) (omega arith) (c .before .before .before .before .before .before .size-of .result) (c .before .before .before .before .before .before .size-of .ensures .0) _ _ _ _ (c .enter .ensures))
+    let m = c .before .before .before .before .before .before .before .before .before .smaller .ensures in (
+      omega arith,
+      λ i lo k rest g w.
+          enters i (now (s .args .begins)) (now (s .args .table)) (s .args .hi) g lo k
+          (queuesOf (l .queues) (now (s .args .heads)) (l .lengths) (l .keys) (l .on)) (l .set) (l .large) (l .n) (s .args .view .oldest) (l .b) rest
+          (l .inv .1 i lo k rest g w) (omega arith) (omega arith) (c .before .before .before .before .before .before .size-of .result) (c .before .before .before .before .before .before .size-of .ensures .0) _ _ _ _ (c .enter .ensures),
+    )
 
 -- src/lib.rt:105:1
 returns : tie.Need-returns Inv-loop μ-loop
