@@ -21,7 +21,14 @@ pub better-not : (c r j : ℕ) (b : Best) → b .cost ≤ c → better c r j b �
 unfolding better
 better-not c r j b h = rw (le-ltb c (b .cost) h) refl
 
--- what comes out costs no more than either
+-- the two branches of the code
+pub better-taken : (r j : ℕ) {c x : ℕ} (b : Best) → c ≡ x → c < b .cost → record { cost = c; r = r; j = j } ≡ better x r j b
+better-taken r j {c} {x} b e h = rw e (sym (better-less x r j b (rw e at h)))
+
+pub better-left : (r j : ℕ) {c x : ℕ} (b : Best) → c ≡ x → b .cost ≤ c → b ≡ better x r j b
+better-left r j {c} {x} b e h = sym (better-not x r j b (rw e at h))
+
+-- what comes out costs no more
 pub better-le : (c r j : ℕ) (b : Best) → better c r j b .cost ≤ c
 better-le c r j b =
     ⊎-elim
@@ -71,6 +78,17 @@ module _ (cost : ℕ → ℕ) (test : ℕ → Bool) (r : ℕ) (b : Best) (s : �
       let e : k + suc m ≡ suc (k + m) = omega arith in
       let a : s + (k + m) ≡ s + k + m = omega arith in
       rw (e, a, from-join k m) refl
+
+-- none passes among the last ones
+pub from-skip : (cost : ℕ → ℕ) (test : ℕ → Bool) (r : ℕ) (b : Best) (s k m : ℕ) → k ≤ m → ((i : ℕ) → k ≤ i → i < m → T (not (test (s + i))))
+    → bestFrom cost test r b s m ≡ bestFrom cost test r b s k
+from-skip cost test r b s k m h z =
+    let e : k + (m - k) ≡ m = omega arith in
+    sym (ap (bestFrom cost test r b s) e)
+    ∙ from-join cost test r b s k (m - k)
+    ∙ from-fails cost test r (bestFrom cost test r b s k) (s + k) (m - k) (λ i a l.
+    let q : s + (i - s) ≡ i = omega arith in
+    rw q at (z (i - s) (omega arith) (omega arith)))
 
 -- the best of a stretch and of the one after it, by their ends
 pub from-on : (cost : ℕ → ℕ) (test : ℕ → Bool) (r : ℕ) (b : Best) (s m e : ℕ) → s ≤ m → m ≤ e

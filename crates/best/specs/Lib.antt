@@ -4,4 +4,6 @@ pub mod Least
 pub mod Prices
 pub mod PriceLaws
 pub mod Wraps
+pub mod WrapLaws
 pub mod Segments
+pub mod Walk

@@ -1,0 +1,108 @@
+use Rattle.best.proofs.all.best_all.Statement.{statement}
+use Rattle.best.proofs.all.best_all.Tie as tie
+use Rattle.best.proofs.all.best_all.Reads as reads
+use Rattle.best.proofs.all.best_all.Lts as lts
+use Rattle.best.proofs.all.best_layout.Reads as best-layout-reads
+
+abbrev Inv-loop : tie.InvT-loop
+Inv-loop g table keys size free count layouts best₀ a₀ f₀ r₀ best a f r = ?
+
+abbrev μ-loop : tie.MeasureT-loop
+μ-loop g table keys size free count layouts best₀ a₀ f₀ r₀ best a f r = ?
+
+-- src/all.rt:78:5
+loop-holds : tie.Need-loop-holds Inv-loop μ-loop
+loop-holds c = ?
+
+-- src/all.rt:79:47
+add-best-layout : tie.Need-add-best-layout Inv-loop μ-loop
+add-best-layout c = ?
+
+-- src/all.rt:79:38
+mul-best-layout : tie.Need-mul-best-layout Inv-loop μ-loop
+mul-best-layout c = ?
+
+-- src/all.rt:79:38
+sub-best-layout : tie.Need-sub-best-layout Inv-loop μ-loop
+sub-best-layout c = ?
+
+-- src/all.rt:79:38
+part-best-layout-start : tie.Need-part-best-layout-start Inv-loop μ-loop
+part-best-layout-start c = ?
+
+-- src/all.rt:79:38
+part-best-layout-end : tie.Need-part-best-layout-end Inv-loop μ-loop
+part-best-layout-end c = ?
+
+-- src/all.rt:79:67
+add-best-layout-2 : tie.Need-add-best-layout-2 Inv-loop μ-loop
+add-best-layout-2 c = ?
+
+-- src/all.rt:79:58
+mul-best-layout-2 : tie.Need-mul-best-layout-2 Inv-loop μ-loop
+mul-best-layout-2 c = ?
+
+-- src/all.rt:79:58
+sub-best-layout-2 : tie.Need-sub-best-layout-2 Inv-loop μ-loop
+sub-best-layout-2 c = ?
+
+-- src/all.rt:79:58
+part-best-layout-start-2 : tie.Need-part-best-layout-start-2 Inv-loop μ-loop
+part-best-layout-start-2 c = ?
+
+-- src/all.rt:79:58
+part-best-layout-end-2 : tie.Need-part-best-layout-end-2 Inv-loop μ-loop
+part-best-layout-end-2 c = ?
+
+-- src/all.rt:79:9
+best-layout-requires : tie.Need-best-layout-requires Inv-loop μ-loop
+best-layout-requires c κs = ?
+
+-- src/all.rt:80:9
+add-a : tie.Need-add-a Inv-loop μ-loop
+add-a c = ?
+
+-- src/all.rt:81:9
+add-f : tie.Need-add-f Inv-loop μ-loop
+add-f c = ?
+
+-- src/all.rt:82:9
+add-r : tie.Need-add-r Inv-loop μ-loop
+add-r c = ?
+
+-- src/all.rt:78:5
+loop-less : tie.Need-loop-less Inv-loop μ-loop
+loop-less c = ?
+
+-- src/all.rt:78:5
+loop-again : tie.Need-loop-again Inv-loop μ-loop
+loop-again c = ?
+
+-- src/all.rt:55:1
+returns : tie.Need-returns Inv-loop μ-loop
+returns c = ?
+
+pub best-all-spec : {M : Type 1} → statement M
+best-all-spec =
+    tie.close
+    (tie.spec
+    Inv-loop
+    μ-loop
+    loop-holds
+    add-best-layout
+    mul-best-layout
+    sub-best-layout
+    part-best-layout-start
+    part-best-layout-end
+    add-best-layout-2
+    mul-best-layout-2
+    sub-best-layout-2
+    part-best-layout-start-2
+    part-best-layout-end-2
+    best-layout-requires
+    add-a
+    add-f
+    add-r
+    loop-less
+    loop-again
+    returns)

@@ -1,0 +1,26 @@
+use borrow.Author.Needs.{needs}
+use Rattle.best.proofs.many.best_segment.Statement.{statement}
+use Rattle.best.proofs.many.best_segment.Tie as tie
+use Rattle.best.proofs.many.best_segment.Reads as reads
+use Rattle.best.proofs.many.best_segment.Lts as lts
+use Rattle.best.proofs.price.better_of.Reads as better-of-reads
+use Rattle.words.proofs.next_set.Reads as next-set-reads
+
+-- src/many.rt:35:9
+next-set-requires : tie.Need-next-set-requires
+next-set-requires c κs = search needs
+
+-- src/many.rt:37:9
+better-of-requires : tie.Need-better-of-requires
+better-of-requires c κs = ?
+
+-- src/many.rt:37:9
+returns : tie.Need-returns
+returns c = ?
+
+-- src/many.rt:19:1
+returns-2 : tie.Need-returns-2
+returns-2 c = ?
+
+pub best-segment-spec : {M : Type 1} → statement M
+best-segment-spec = tie.close (tie.spec next-set-requires better-of-requires returns returns-2)

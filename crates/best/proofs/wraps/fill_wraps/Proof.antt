@@ -1,0 +1,74 @@
+use Rattle.best.proofs.wraps.fill_wraps.Statement.{statement}
+use Rattle.best.proofs.wraps.fill_wraps.Tie as tie
+use Rattle.best.proofs.wraps.fill_wraps.Reads as reads
+use Rattle.best.proofs.wraps.fill_wraps.Lts as lts
+use Rattle.best.proofs.wraps.clear.Reads as clear-reads
+use Rattle.best.proofs.wraps.set_point.Reads as set-point-reads
+
+abbrev Inv-loop : tie.InvT-loop
+Inv-loop g work₀ at size up count i₀ work i = ?
+
+abbrev μ-loop : tie.MeasureT-loop
+μ-loop g work₀ at size up count i₀ work i = ?
+
+-- src/wraps.rt:45:5
+clear-requires : tie.Need-clear-requires Inv-loop μ-loop
+clear-requires c κs = ?
+
+-- src/wraps.rt:47:5
+loop-holds : tie.Need-loop-holds Inv-loop μ-loop
+loop-holds c = ?
+
+-- src/wraps.rt:48:22
+add-d : tie.Need-add-d Inv-loop μ-loop
+add-d c = ?
+
+-- src/wraps.rt:48:17
+mul-d : tie.Need-mul-d Inv-loop μ-loop
+mul-d c = ?
+
+-- src/wraps.rt:48:17
+slice-read-d : tie.Need-slice-read-d Inv-loop μ-loop
+slice-read-d c = ?
+
+-- src/wraps.rt:49:9
+set-point-requires : tie.Need-set-point-requires Inv-loop μ-loop
+set-point-requires c κs = ?
+
+-- src/wraps.rt:50:9
+add-i : tie.Need-add-i Inv-loop μ-loop
+add-i c = ?
+
+-- src/wraps.rt:47:5
+loop-less : tie.Need-loop-less Inv-loop μ-loop
+loop-less c = ?
+
+-- src/wraps.rt:47:5
+loop-again : tie.Need-loop-again Inv-loop μ-loop
+loop-again c = ?
+
+-- src/wraps.rt:40:1
+same-length : tie.Need-same-length Inv-loop μ-loop
+same-length c = ?
+
+-- src/wraps.rt:40:1
+returns : tie.Need-returns Inv-loop μ-loop
+returns c = ?
+
+pub fill-wraps-spec : {M : Type 1} → statement M
+fill-wraps-spec =
+    tie.close
+    (tie.spec
+    Inv-loop
+    μ-loop
+    clear-requires
+    loop-holds
+    add-d
+    mul-d
+    slice-read-d
+    set-point-requires
+    add-i
+    loop-less
+    loop-again
+    same-length
+    returns)

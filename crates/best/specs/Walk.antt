@@ -1,0 +1,83 @@
+-- The walk over the set bits of one free word, lowest first: what is left of the word are its bits from the lowest one left on, and the rotations
+-- below that bit are done. Assumes nothing.
+use mathlib.Core.Path.{_≡_, refl, sym, ap, _∙_}
+use mathlib.Core.Logic.{_≢_, ⊎-elim}
+use mathlib.Core.Bool.{not}
+use mathlib.Core.List.{List}
+use Prim.Native.Nat.{ℕ, zero, suc, _+_, _-_, _*_, _^_, _≤_, _<_}
+use native.Mathlib.Omega.{arith}
+use lib.Bits.{bitAnd}
+use lib.Count.{trailingZeros, trailing-le, trailing-of-zero}
+use lib.Dec.{T}
+use lib.ListN.{getD}
+use Rattle.words.specs.Bit.{bit}
+use Rattle.words.specs.Cases.{lt-or-ge}
+use Rattle.words.specs.Map.{slot}
+use Rattle.words.specs.MapLaws.{slot-at}
+use Rattle.words.specs.CountLaws.{tz-below, tz-bit, tz-lt, clear-same, clear-other, clear-lt}
+use Rattle.best.specs.declared.Best.{Best}
+use Rattle.best.specs.Best.{better, bestFrom}
+use Rattle.best.specs.BestLaws.{from-pass, from-fails, from-skip}
+use Rattle.best.specs.Prices.{isFree}
+use Rattle.best.specs.PriceLaws.{free-one, free-zero}
+
+pub record Walk (cost : ℕ → ℕ) (free : List ℕ) (r w : ℕ) (before : Best) (left : ℕ) (best : Best) : Type 0 where
+  pub fits : left < 2 ^ 64
+  pub same : (i : ℕ) → i < 64 → trailingZeros 64 left ≤ i → bit left i ≡ slot free (64 * w + i)
+  pub is : best ≡ bestFrom cost (isFree free) r before (64 * w) (trailingZeros 64 left)
+
+slot-of : (free : List ℕ) (w i : ℕ) → i < 64 → slot free (64 * w + i) ≡ bit (getD free w 0) i
+slot-of free w i h = let e : 64 * w + i ≡ w * 64 + i = omega arith in ap (slot free) e ∙ slot-at free w i h
+
+pub walk-start : (cost : ℕ → ℕ) (free : List ℕ) (r w : ℕ) (before : Best) → getD free w 0 < 2 ^ 64 → Walk cost free r w before (getD free w 0) before
+walk-start cost free r w before f = record {
+  fits = f;
+  same = λ i h l. sym (slot-of free w i h);
+  is = sym (from-fails cost (isFree free) r before (64 * w) (trailingZeros 64 (getD free w 0)) (λ i a l.
+      let q : 64 * w + (i - 64 * w) ≡ i = omega arith in
+      free-zero free i (ap (slot free) (sym q) ∙ slot-of free w (i - 64 * w) (omega (arith, trailing-le 64 (getD free w 0))) ∙ tz-below 64 (getD free w 0) (i - 64 * w) (omega arith))));
+}
+
+module _ {cost : ℕ → ℕ} {free : List ℕ} {r w : ℕ} {before : Best} {left : ℕ} {best : Best} (a : Walk cost free r w before left best) where
+  module _ (n : left ≢ 0) where
+    pub walk-lt : trailingZeros 64 left < 64
+    walk-lt = tz-lt 64 left (a .fits) n
+
+    -- the next lowest bit is a higher one
+    walk-up : trailingZeros 64 left < trailingZeros 64 (bitAnd left (left - 1))
+    walk-up =
+        ⊎-elim
+        (λ h. h)
+        (λ (h : trailingZeros 64 (bitAnd left (left - 1)) ≤ trailingZeros 64 left).
+        let set = tz-bit 64 (bitAnd left (left - 1)) (omega (arith, walk-lt)) in
+        ⊎-elim
+        (λ (l : trailingZeros 64 (bitAnd left (left - 1)) < trailingZeros 64 left).
+        absurd (omega (
+          arith,
+          clear-other 64 left (trailingZeros 64 (bitAnd left (left - 1))) (a .fits) n (omega arith),
+          tz-below 64 left (trailingZeros 64 (bitAnd left (left - 1))) l,
+        )))
+        (λ (l : trailingZeros 64 left ≤ trailingZeros 64 (bitAnd left (left - 1))).
+        let e : trailingZeros 64 (bitAnd left (left - 1)) ≡ trailingZeros 64 left = omega arith in
+        absurd (omega (arith, ap (bit (bitAnd left (left - 1))) e, clear-same 64 left (a .fits) n)))
+        (lt-or-ge (trailingZeros 64 (bitAnd left (left - 1))) (trailingZeros 64 left)))
+        (lt-or-ge (trailingZeros 64 left) (trailingZeros 64 (bitAnd left (left - 1))))
+
+    -- bits above the lowest one
+    above : (i : ℕ) → i < 64 → trailingZeros 64 left < i → bit (bitAnd left (left - 1)) i ≡ slot free (64 * w + i)
+    above i h l = clear-other 64 left i (a .fits) n (omega arith) ∙ a .same i h (omega arith)
+
+    pub walk-more : {best' : Best} → best' ≡ better (cost (64 * w + trailingZeros 64 left)) r (64 * w + trailingZeros 64 left) best
+        → Walk cost free r w before (bitAnd left (left - 1)) best'
+    walk-more {best'} e = record {
+      fits = clear-lt 64 left (a .fits);
+      same = λ i h l. above i h (omega (arith, walk-up));
+      is = e
+          ∙ ap (better (cost (64 * w + trailingZeros 64 left)) r (64 * w + trailingZeros 64 left)) (a .is)
+          ∙ sym (from-pass cost (isFree free) r before (64 * w) (trailingZeros 64 left) (free-one free (64 * w + trailingZeros 64 left) (sym (a .same (trailingZeros 64 left) walk-lt (omega arith)) ∙ tz-bit 64 left walk-lt)))
+          ∙ sym (from-skip cost (isFree free) r before (64 * w) (suc (trailingZeros 64 left)) (trailingZeros 64 (bitAnd left (left - 1))) walk-up (λ i h l.
+          free-zero free (64 * w + i) (sym (above i (omega (arith, trailing-le 64 (bitAnd left (left - 1)))) h) ∙ tz-below 64 (bitAnd left (left - 1)) i l)));
+    }
+
+  pub walk-end : left ≡ 0 → best ≡ bestFrom cost (isFree free) r before (64 * w) 64
+  walk-end z = a .is ∙ ap (λ (x : ℕ). bestFrom cost (isFree free) r before (64 * w) (trailingZeros 64 x)) z ∙ ap (bestFrom cost (isFree free) r before (64 * w)) (trailing-of-zero 64)
