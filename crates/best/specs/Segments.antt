@@ -22,7 +22,7 @@ use Rattle.rings.specs.RingLaws.{n-pos}
 use Rattle.rings.specs.KeyLaws.{place-lt, place-turn, entry-lt, cost-all}
 use Rattle.best.specs.declared.Best.{Best}
 use Rattle.best.specs.Best.{better, bestFrom}
-use Rattle.best.specs.BestLaws.{from-fails, from-on, from-one}
+use Rattle.best.specs.BestLaws.{from-fails, from-join, from-one}
 use Rattle.best.specs.Prices.{Prices, isFree}
 use Rattle.best.specs.PriceLaws.{free-one, free-zero}
 use Rattle.best.specs.Wraps.{Points}
@@ -75,7 +75,7 @@ module _ (g : Ring) (s : Shape g) (table keys : List ℕ) (p : Prices g table ke
       )
 
   -- from one wrap point to the next
-  pub segment-rises : (wraps : List ℕ) → Points g keys wraps → (b e : ℕ) → e ≤ g .n → ((q : ℕ) → b < q → q < e → slot wraps q ≡ 0) → Rises (costAt g table keys) b e
+  segment-rises : (wraps : List ℕ) → Points g keys wraps → (b e : ℕ) → e ≤ g .n → ((q : ℕ) → b < q → q < e → slot wraps q ≡ 0) → Rises (costAt g table keys) b e
   unfolding costAt Points
   segment-rises wraps w b e le none j i hb hj hi =
       cost-rise j i (length keys) (omega arith) (λ m lm.
@@ -84,12 +84,32 @@ module _ (g : Ring) (s : Shape g) (table keys : List ℕ) (p : Prices g table ke
       place-rise g s (getD keys m 0) j (i - j) (λ q a l z. omega (arith, none q (omega arith) (omega arith), w m q lm (omega arith) (omega arith) z)) in
       rw to at go)
 
--- ---- the code's segment
+  -- from b up to the next wrap point
+  pub next-rises : (wraps : List ℕ) → Points g keys wraps → (b : ℕ) {e : ℕ} → b < g .n → e ≡ nextSet wraps (b + 1) (g .n) → Rises (costAt g table keys) b e
+  next-rises wraps w b {e} l h =
+      let f : First wraps (b + 1) (g .n) e = rw h (next-is wraps (b + 1) (g .n) (omega arith)) in
+      segment-rises wraps w b e (f .to) (λ q x y. f .below q (omega arith) y)
+
+-- ---- the code: one segment, and one after the other
 
 module _ (cost : ℕ → ℕ) (free : List ℕ) (r : ℕ) (b : Best) (s e : ℕ) where
-  pub segment-first : (j : ℕ) → Rises cost s e → First free s e j → j < e → better (cost j) r j b ≡ bestFrom cost (isFree free) r b s (e - s)
-  segment-first j up f l =
-      sym (from-one cost (isFree free) r b s j e (f .from) l (free-one free j (f .at l)) (λ i a x. free-zero free i (f .below i a x)) (λ i a x. up j i (f .from) (omega arith) x))
+  pub segment-first : {j : ℕ} {b' : Best} → s ≤ e → Rises cost s e → j ≡ nextSet free s e → j < e → b' ≡ better (cost j) r j b → b' ≡ bestFrom cost (isFree free) r b s (e - s)
+  segment-first {j} {b'} h up n l is =
+      let f : First free s e j = rw n (next-is free s e h) in
+      is ∙ sym (from-one cost (isFree free) r b s j e (f .from) l (free-one free j (f .at l)) (λ i a x. free-zero free i (f .below i a x)) (λ i a x. up j i (f .from) (omega arith) x))
 
-  pub segment-none : (j : ℕ) → First free s e j → e ≤ j → b ≡ bestFrom cost (isFree free) r b s (e - s)
-  segment-none j f l = sym (from-fails cost (isFree free) r b s (e - s) (λ i a x. free-zero free i (f .below i a (omega arith))))
+  pub segment-none : {j : ℕ} → s ≤ e → j ≡ nextSet free s e → e ≤ j → b ≡ bestFrom cost (isFree free) r b s (e - s)
+  segment-none {j} h n l =
+      let f : First free s e j = rw n (next-is free s e h) in
+      sym (from-fails cost (isFree free) r b s (e - s) (λ i a x. free-zero free i (f .below i a (omega arith))))
+
+pub segment-more : (cost : ℕ → ℕ) (free : List ℕ) (r : ℕ) (old : Best) (s e : ℕ) {b b' : Best} → b ≡ bestFrom cost (isFree free) r old 0 s → s ≤ e
+    → b' ≡ bestFrom cost (isFree free) r b s (e - s) → b' ≡ bestFrom cost (isFree free) r old 0 e
+segment-more cost free r old s e {b} {b'} is h is' =
+    let k : s + (e - s) ≡ e = omega arith in
+    let z : 0 + s ≡ s = omega arith in
+    is'
+    ∙ ap (λ (x : Best). bestFrom cost (isFree free) r x s (e - s)) is
+    ∙ ap (λ (x : ℕ). bestFrom cost (isFree free) r (bestFrom cost (isFree free) r old 0 s) x (e - s)) (sym z)
+    ∙ sym (from-join cost (isFree free) r old 0 s (e - s))
+    ∙ ap (bestFrom cost (isFree free) r old 0) k

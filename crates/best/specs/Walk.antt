@@ -9,7 +9,7 @@ use native.Mathlib.Omega.{arith}
 use lib.Bits.{bitAnd}
 use lib.Count.{trailingZeros, trailing-le, trailing-of-zero}
 use lib.Dec.{T}
-use lib.ListN.{getD}
+use lib.ListN.{length, getD}
 use Rattle.words.specs.Bit.{bit}
 use Rattle.words.specs.Cases.{lt-or-ge}
 use Rattle.words.specs.Map.{slot}
@@ -17,8 +17,8 @@ use Rattle.words.specs.MapLaws.{slot-at}
 use Rattle.words.specs.CountLaws.{tz-below, tz-bit, tz-lt, clear-same, clear-other, clear-lt}
 use Rattle.best.specs.declared.Best.{Best}
 use Rattle.best.specs.Best.{better, bestFrom}
-use Rattle.best.specs.BestLaws.{from-pass, from-fails, from-skip}
-use Rattle.best.specs.Prices.{isFree}
+use Rattle.best.specs.BestLaws.{from-pass, from-fails, from-skip, from-join}
+use Rattle.best.specs.Prices.{isFree, Ended}
 use Rattle.best.specs.PriceLaws.{free-one, free-zero}
 
 pub record Walk (cost : ℕ → ℕ) (free : List ℕ) (r w : ℕ) (before : Best) (left : ℕ) (best : Best) : Type 0 where
@@ -81,3 +81,22 @@ module _ {cost : ℕ → ℕ} {free : List ℕ} {r w : ℕ} {before : Best} {lef
 
   pub walk-end : left ≡ 0 → best ≡ bestFrom cost (isFree free) r before (64 * w) 64
   walk-end z = a .is ∙ ap (λ (x : ℕ). bestFrom cost (isFree free) r before (64 * w) (trailingZeros 64 x)) z ∙ ap (bestFrom cost (isFree free) r before (64 * w)) (trailing-of-zero 64)
+
+-- ---- word after word
+
+pub word-more : (cost : ℕ → ℕ) (free : List ℕ) (r : ℕ) (before : Best) (w : ℕ) {b b' : Best} → b ≡ bestFrom cost (isFree free) r before 0 (64 * w)
+    → b' ≡ bestFrom cost (isFree free) r b (64 * w) 64 → b' ≡ bestFrom cost (isFree free) r before 0 (64 * (w + 1))
+word-more cost free r before w {b} {b'} is is' =
+    let k : 64 * w + 64 ≡ 64 * (w + 1) = omega arith in
+    let z : 0 + 64 * w ≡ 64 * w = omega arith in
+    is'
+    ∙ ap (λ (x : Best). bestFrom cost (isFree free) r x (64 * w) 64) is
+    ∙ ap (λ (x : ℕ). bestFrom cost (isFree free) r (bestFrom cost (isFree free) r before 0 (64 * w)) x 64) (sym z)
+    ∙ sym (from-join cost (isFree free) r before 0 (64 * w) 64)
+    ∙ ap (bestFrom cost (isFree free) r before 0) k
+
+-- no rotation from n on is free
+pub word-end : (cost : ℕ → ℕ) (free : List ℕ) (r : ℕ) (before : Best) (n w : ℕ) {b : Best} → Ended n free → length free ≤ w
+    → b ≡ bestFrom cost (isFree free) r before 0 (64 * w) → b ≡ bestFrom cost (isFree free) r before 0 n
+word-end cost free r before n w {b} a h is =
+    is ∙ from-skip cost (isFree free) r before 0 n (64 * w) (omega (arith, a .whole)) (λ i x l. free-zero free (0 + i) (a .none (0 + i) (omega arith)))

@@ -147,13 +147,13 @@ module _ {up count i : ℕ} {l now : List ℕ} (a : Clearing up count i l now) w
 
 -- ---- `set_point`
 
-pub point-none : {g : Ring} {d up count x : ℕ} (l : List ℕ) → Word (g .n) (placeAt g d 0) x → x ≡ 0 → Filled up count l (withPoint g d (part l up count)) l
-point-none {g} {d} {up} {count} l w z = record { kept = kept-self up l; is = sym (with-none g d (part l up count) (sym (w .is) ∙ z)) }
+pub point-none : (g : Ring) (d up count : ℕ) {x : ℕ} (l : List ℕ) → Word (g .n) (placeAt g d 0) x → x ≡ 0 → Filled up count l (withPoint g d (part l up count)) l
+point-none g d up count l w z = record { kept = kept-self up l; is = sym (with-none g d (part l up count) (sym (w .is) ∙ z)) }
 
-pub point-set : {g : Ring} {d up count x : ℕ} (l : List ℕ) → Word (g .n) (placeAt g d 0) x → x ≢ 0 → g .n ≤ 64 * count
+pub point-set : (g : Ring) (d up count : ℕ) {x : ℕ} (l : List ℕ) → Word (g .n) (placeAt g d 0) x → x ≢ 0 → g .n ≤ 64 * count
     → Filled up count l (withPoint g d (part l up count)) (set l (up + (g .n - x) / 64) (bitOr (getD l (up + (g .n - x) / 64) 0) (1 * 2 ^ ((g .n - x) % 64) % 2 ^ 64)))
 unfolding marked
-point-set {g} {d} {up} {count} {x} l w z fits = record {
+point-set g d up count {x} l w z fits = record {
   kept = kept-set up l (up + (g .n - x) / 64) v (omega arith);
   is = ap (take count) (drop-set-add up l ((g .n - x) / 64) v)
       ∙ take-set-lt count (drop up l) ((g .n - x) / 64) v (omega (arith, w .lt))

@@ -1,3 +1,13 @@
+use mathlib.Core.Path.{_≡_, sym}
+use Prim.Native.Nat.{ℕ, _≤_, _-_, _*_}
+use native.Mathlib.Omega.{arith}
+use lib.ListN.{length}
+use Rattle.rings.specs.Keys.{costAt}
+use Rattle.best.specs.Best.{bestFrom}
+use Rattle.best.specs.BestLaws.{from-none}
+use Rattle.best.specs.Prices.{isFree}
+use Rattle.best.specs.Walk.{word-more, word-end}
+use borrow.Author.Needs.{needs}
 use Rattle.best.proofs.all.best_layout.Statement.{statement}
 use Rattle.best.proofs.all.best_layout.Tie as tie
 use Rattle.best.proofs.all.best_layout.Reads as reads
@@ -5,34 +15,34 @@ use Rattle.best.proofs.all.best_layout.Lts as lts
 use Rattle.best.proofs.all.best_word.Reads as best-word-reads
 
 abbrev Inv-loop : tie.InvT-loop
-Inv-loop g table keys free r best₀ w₀ best w = ?
+Inv-loop g table keys free r best₀ w₀ best w = (w ≤ length free) × (best ≡ bestFrom (costAt g table keys) (isFree free) r best₀ 0 (64 * w))
 
 abbrev μ-loop : tie.MeasureT-loop
-μ-loop g table keys free r best₀ w₀ best w = ?
+μ-loop g table keys free r best₀ w₀ best w = length free - w
 
 -- src/all.rt:47:5
 loop-holds : tie.Need-loop-holds Inv-loop μ-loop
-loop-holds c = ?
+loop-holds c = (omega arith, sym (from-none _ _ _ _ _))
 
 -- src/all.rt:48:9
 best-word-requires : tie.Need-best-word-requires Inv-loop μ-loop
-best-word-requires c κs = ?
+best-word-requires c κs = let s = c .before .before .before .before .before in (s .pre .0, (s .pre .1 .0, (omega arith, omega (arith, s .pre .1 .1 .short))))
 
 -- src/all.rt:49:9
 add-w : tie.Need-add-w Inv-loop μ-loop
-add-w c = ?
+add-w c = search needs
 
 -- src/all.rt:47:5
 loop-less : tie.Need-loop-less Inv-loop μ-loop
-loop-less c = ?
+loop-less c = search needs
 
 -- src/all.rt:47:5
 loop-again : tie.Need-loop-again Inv-loop μ-loop
-loop-again c = ?
+loop-again c = (omega arith, word-more _ _ _ _ _ (c .before .before .loop .inv .1) (c .best-word .ensures))
 
 -- src/all.rt:39:1
 returns : tie.Need-returns Inv-loop μ-loop
-returns c = ?
+returns c = word-end _ _ _ _ _ (c .before .loop .w) (c .before .before .before .before .before .pre .1 .1) (c .loop-test .left) (c .before .loop .inv .1)
 
 pub best-layout-spec : {M : Type 1} → statement M
 best-layout-spec =

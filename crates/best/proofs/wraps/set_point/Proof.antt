@@ -1,3 +1,5 @@
+use native.Mathlib.Omega.{arith}
+use Rattle.best.specs.WrapLaws.{point-none, point-set}
 use borrow.Author.Needs.{needs}
 use Rattle.best.proofs.wraps.set_point.Statement.{statement}
 use Rattle.best.proofs.wraps.set_point.Tie as tie
@@ -11,7 +13,7 @@ place-of-requires c κs = search needs
 
 -- src/wraps.rt:32:9
 returns : tie.Need-returns
-returns c = ?
+returns c = point-none _ _ _ _ _ (c .before .place-of .ensures) (c .if1 .taken)
 
 -- src/wraps.rt:34:13
 sub-p : tie.Need-sub-p
@@ -47,7 +49,7 @@ same-length c = search needs
 
 -- src/wraps.rt:25:1
 returns-2 : tie.Need-returns-2
-returns-2 c = ?
+returns-2 c = point-set _ _ _ _ _ (c .before .before .before .place-of .ensures) (c .before .before .if1 .left) (c .before .before .before .before .before .pre .1 .1)
 
 pub set-point-spec : {M : Type 1} → statement M
 set-point-spec =
