@@ -6,4 +6,5 @@ pub mod PriceLaws
 pub mod Wraps
 pub mod WrapLaws
 pub mod Segments
+pub mod Layouts
 pub mod Walk

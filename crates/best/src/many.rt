@@ -66,6 +66,37 @@ fn best_segments(
     best
 }
 
+// The free rotations of layout r, whose keys are work[a..a + size] and whose free words are work[f..f + count]; work[up..up + count] is overwritten.
+fn best_between(
+    g: Ring,
+    table: &[u32],
+    work: &mut [u64],
+    a: usize,
+    size: usize,
+    f: usize,
+    count: usize,
+    up: usize,
+    r: usize,
+    before: Best,
+) -> Best
+    requires { ⌜ Shape g ⌝ }
+    requires { ⌜ Prices g (now table) (part (now work) a size) ⌝ }
+    requires { ⌜ (a + size ≤ up) × (f + count ≤ up) × (up + count ≤ length (now work)) × (g .n ≤ 64 * count) ⌝ }
+    ensures { λ b. ⌜ (b ≡ bestFrom (costAt g (now (table .entry)) (part (now (work .entry)) a size)) (isFree (part (now (work .entry)) f count)) r before 0 (g .n)) × Kept up (now (work .entry)) (now (work .exit)) ⌝ }
+{
+    fill_wraps(g, work, a, size, up, count);
+    let v = &work[..];
+    best_segments(
+        g,
+        table,
+        &v[a..a + size],
+        &v[f..f + count],
+        &v[up..up + count],
+        r,
+        before,
+    )
+}
+
 // The best free rotation of all layouts. Layout r has the `size` keys at work[at + r size..] and the `count` free words at work[to + r count..];
 // work[up..up + count] is overwritten.
 pub fn best_many(
@@ -93,17 +124,7 @@ pub fn best_many(
     let mut f = to;
     let mut r = 0;
     while r < layouts {
-        fill_wraps(g, work, a, size, up, count);
-        let v = &work[..];
-        best = best_segments(
-            g,
-            table,
-            &v[a..a + size],
-            &v[f..f + count],
-            &v[up..up + count],
-            r,
-            best,
-        );
+        best = best_between(g, table, work, a, size, f, count, up, r, best);
         a += size;
         f += count;
         r += 1;
