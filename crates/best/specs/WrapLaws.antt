@@ -19,7 +19,7 @@ use Rattle.rings.specs.declared.Ring.{Ring}
 use Rattle.rings.specs.Ring.{Shape, Word}
 use Rattle.rings.specs.Keys.{placeAt}
 use Rattle.rings.specs.KeyLaws.{place-lt, place-turn}
-use Rattle.rings.specs.Parts.{part, part-at, length-part, part-same, elem-same}
+use Rattle.rings.specs.Parts.{part, part-at, part-range, length-part, part-same, elem-same}
 use Rattle.best.specs.Wraps.{withPoint, pointsOf, Points, Kept, Filled}
 
 -- ---- what is kept
@@ -36,6 +36,10 @@ kept-on a b = record { front = b .front ∙ a .front; len = b .len ∙ a .len }
 -- a part below `up`
 pub kept-part : {up : ℕ} {l l' : List ℕ} (at size : ℕ) → Kept up l l' → at + size ≤ up → part l' at size ≡ part l at size
 kept-part {up} {l} {l'} at size k h = part-same l' l up at size h (k .len) (k .front)
+
+-- a part `&after[at..at + size]` of the code
+pub kept-range : {up : ℕ} {l after : List ℕ} (at size : ℕ) → Kept up l after → at + size ≤ up → take (at + size - at) (drop at after) ≡ part l at size
+kept-range {up} {l} {after} at size k h = part-range after at size ∙ kept-part at size k h
 
 -- ---- one key's point
 
@@ -199,3 +203,18 @@ module _ {g : Ring} {l : List ℕ} {at size up count i : ℕ} {now : List ℕ} (
         kept = kept-on (f .kept) (a .filled .kept);
         is = a .filled .is ∙ rw (e, kept-part at size (f .kept) below) refl;
       }
+
+-- ---- the points beside the keys, as parts of the code
+
+module _ {up count : ℕ} {l words after : List ℕ} (f : Filled up count l words after) (n : ℕ) (fits : n ≤ 64 * count) (room : up + count ≤ length l) where
+  pub free-room : (at : ℕ) → at + count ≤ up → n ≤ 64 * length (take (at + count - at) (drop at after))
+  free-room at h = rw (kept-range at count (f .kept) h, length-part l at count (omega arith)) fits
+
+  pub wraps-room : n ≤ 64 * length (take (up + count - up) (drop up after))
+  wraps-room = rw (part-range after up count, length-part after up count (omega (arith, f .kept .len))) fits
+
+pub points-here : {g : Ring} {up count : ℕ} (a size : ℕ) {l after : List ℕ} → Shape g → Filled up count l (pointsOf g (part l a size) count size) after → g .n ≤ 64 * count
+    → a + size ≤ up → a + size ≤ length l → Points g (take (a + size - a) (drop a after)) (take (up + count - up) (drop up after))
+points-here {g} {up} {count} a size {l} {after} s f fits below room =
+    let all : Points g (part l a size) (pointsOf g (part l a size) count (length (part l a size))) = points-all g s (part l a size) count fits in
+    rw (kept-range a size (f .kept) below, part-range after up count, f .is) (rw (length-part l a size room) at all)

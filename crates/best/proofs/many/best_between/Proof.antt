@@ -1,3 +1,5 @@
+use native.Mathlib.Omega.{arith}
+use Rattle.best.specs.WrapLaws.{kept-range, free-room, wraps-room, points-here}
 use borrow.Author.Needs.{needs}
 use Rattle.best.proofs.many.best_between.Statement.{statement}
 use Rattle.best.proofs.many.best_between.Tie as tie
@@ -72,7 +74,13 @@ part-best-segments-end-3 c = search needs
 
 -- src/many.rt:89:5
 best-segments-requires : tie.Need-best-segments-requires
-best-segments-requires c κs = ?
+best-segments-requires c κs = let s = c .before .before .before .before .before .before .before .before .before .before in
+    let p = s .pre .1 .1 in
+    let w = c .before .before .before .before .before .before .fill-wraps .ensures in
+    (s .pre .0,
+    (rw (kept-range (s .args .a) (s .args .size) (w .kept) (p .0)) (s .pre .1 .0),
+    ((free-room w (s .args .g .n) (p .3) (p .2) (s .args .f) (p .1), wraps-room w (s .args .g .n) (p .3) (p .2)),
+    points-here (s .args .a) (s .args .size) (s .pre .0) w (p .3) (p .0) (omega arith))))
 
 -- src/many.rt:70:1
 same-length : tie.Need-same-length
@@ -80,7 +88,10 @@ same-length c = search needs
 
 -- src/many.rt:70:1
 returns : tie.Need-returns
-returns c = ?
+returns c = let s = c .before .before .before .before .before .before .before .before .before .before .before in
+    let p = s .pre .1 .1 in
+    let w = c .before .before .before .before .before .before .before .fill-wraps .ensures .kept in
+    (rw (kept-range (s .args .a) (s .args .size) w (p .0), kept-range (s .args .f) (s .args .count) w (p .1)) at (c .best-segments .ensures), w)
 
 pub best-between-spec : {M : Type 1} → statement M
 best-between-spec =
