@@ -1,11 +1,14 @@
 -- Layout after layout: what holds of all keys and free words holds of a layout's part, and the loops of `best_all` and `best_many`. Assumes nothing.
 use mathlib.Core.Path.{_≡_, refl, sym, ap, _∙_}
+use mathlib.Core.Logic.{_≢_}
+use mathlib.Core.Bool.{not}
 use mathlib.Core.List.{List}
 use Prim.Native.Nat.{ℕ, zero, suc, _+_, _-_, _*_, _/_, _^_, _≤_, _<_}
 use native.Mathlib.Omega.{arith}
 use native.Mathlib.Nat.{mul-le-mul-right}
 use native.Mathlib.Numerals.{add-one}
 use lib.Arith.{digits-lt}
+use lib.Dec.{T}
 use lib.ListN.{length, getD, take, drop, length-take, length-drop}
 use lib.Seq.{ext-getD}
 use Rattle.rings.specs.declared.Ring.{Ring}
@@ -14,6 +17,8 @@ use Rattle.rings.specs.Parts.{part, part-at, length-part, part-range}
 use Rattle.best.specs.declared.Best.{Best}
 use Rattle.best.specs.Best.{nothing, bestFrom, bestOf}
 use Rattle.best.specs.Prices.{Prices, isFree, costIn, freeIn, bestFree, Ended, EndedAll}
+use Rattle.best.specs.PriceLaws.{cost-lt}
+use Rattle.best.specs.Least.{Found, best-found, best-none}
 use Rattle.best.specs.Wraps.{Kept}
 use Rattle.best.specs.WrapLaws.{kept-part}
 
@@ -67,6 +72,21 @@ ended-layout {n} {free} {count} {layouts} r a e lt = record {
   where
     long : length (part free (r * count) count) ≡ count
     long = length-part free (r * count) count (rw e (row-le r layouts count lt))
+
+-- ---- what is found
+
+module _ (g : Ring) (table keys : List ℕ) (size : ℕ) (free : List ℕ) (count layouts : ℕ) where
+  pub free-found : bestFree g table keys size free count layouts .cost ≢ 2 ^ 64 - 1
+      → Found (costIn g table keys size) (freeIn free count) (g .n) layouts (bestFree g table keys size free count layouts)
+  unfolding bestFree
+  free-found h = best-found (costIn g table keys size) (freeIn free count) (g .n) layouts h
+
+  -- the table's entries being of 32 bits
+  pub free-none : bestFree g table keys size free count layouts .cost ≡ 2 ^ 64 - 1 → ((k : ℕ) → getD table k 0 < 2 ^ 32) → Prices g table keys → length keys ≡ layouts * size
+      → (r j : ℕ) → r < layouts → j < g .n → T (not (freeIn free count r j))
+  unfolding bestFree costIn
+  free-none h w p e r j lr lj =
+      best-none (costIn g table keys size) (freeIn free count) (g .n) layouts h r j lr lj (cost-lt g table (part keys (r * size) size) j w (prices-layout size layouts r p e lr .size))
 
 -- ---- the loops
 

@@ -5,7 +5,7 @@ use mathlib.Core.Logic.{_⊎_, inl, inr, ⊎-elim, _≢_}
 use mathlib.Core.Bool.{Bool, not, _&&_, _||_}
 use Prim.Native.Nat.{ℕ, zero, suc, _+_, _-_, _^_, _≤_, _<_}
 use native.Mathlib.Omega.{arith}
-use lib.Dec.{T, T-not, not-T, ltb, ltb→lt}
+use lib.Dec.{T, T-not, not-T, ltb, lt→ltb}
 use lib.Arith.{le→nltb}
 use Rattle.words.specs.Cases.{lt-or-ge}
 use Rattle.rules.specs.Order.{Input}
@@ -74,9 +74,6 @@ module _ (cost : ℕ → ℕ → ℕ) (test : ℕ → ℕ → Bool) (n : ℕ) wh
       z : 0 + k ≡ k
       z = omega arith
 
-      at : ℕ → Best
-      at i = bestFrom (cost q) (test q) q b 0 i
-
       go : Sofar q k (bestFrom (cost q) (test q) q b 0 k) → T (test q (0 + k)) ⊎ T (not (test q (0 + k))) → Sofar q (suc k) (bestFrom (cost q) (test q) q b 0 (suc k))
       go s (inr f) =
           rw (from-fail (cost q) (test q) q b 0 k f) (stay s (λ t. absurd (T-not (test q k) (rw z at f) t)))
@@ -86,3 +83,88 @@ module _ (cost : ℕ → ℕ → ℕ) (test : ℕ → ℕ → Bool) (n : ℕ) wh
           (λ (l : bestFrom (cost q) (test q) q b 0 k .cost ≤ cost q k).
           rw (better-not (cost q k) q k (bestFrom (cost q) (test q) q b 0 k) l) (stay s (λ u. l)))
           (lt-or-ge (cost q k) (bestFrom (cost q) (test q) q b 0 k .cost)))
+
+  -- on to the next layout
+  onward : {q : ℕ} {b : Best} → Sofar q n b → Sofar (suc q) 0 b
+  onward {q} {b} a = record {
+    all = λ r j l o t. a .all r j l (back r j l o) t;
+    which = ⊎-elim (λ e. inl e) (λ w. inr (record { turn = w .turn; reached = inl (below (w .reached)); passes = w .passes; price = w .price; first = w .first })) (a .which);
+  }
+    where
+      back : (r j : ℕ) → j < n → Before r j (suc q) 0 → Before r j q n
+      back r j l (inl h) = ⊎-elim (λ (x : r < q). inl x) (λ (x : q ≤ r). inr (omega arith, l)) (lt-or-ge r q)
+      back r j l (inr (e, x)) = absurd (omega arith)
+
+      below : Before (b .r) (b .j) q n → b .r < suc q
+      below (inl h) = omega arith
+      below (inr (e, x)) = omega arith
+
+  sofar-of : (layouts : ℕ) → Sofar layouts 0 (bestOf cost test n layouts)
+  sofar-of zero = rw (of-none cost test n) (record { all = λ r j l o t. absurd (none r j o); which = inl refl })
+    where
+      none : (r j : ℕ) → Before r j 0 0 → ⊥
+      none r j (inl h) = omega arith
+      none r j (inr (e, h)) = omega arith
+  sofar-of (suc q) = rw (of-more cost test n q) (onward (sofar-from q (sofar-of q) n (omega arith)))
+
+  -- b is the least by (cost, r, j) of the rotations that pass
+  pub record Found (layouts : ℕ) (b : Best) : Type 0 where
+    pub layout : b .r < layouts
+    pub turn : b .j < n
+    pub passes : T (test (b .r) (b .j))
+    pub price : b .cost ≡ cost (b .r) (b .j)
+    pub least : (r j : ℕ) → r < layouts → j < n → T (test r j) → b .cost ≤ cost r j
+    pub first : (r j : ℕ) → j < n → (r < b .r) ⊎ ((r ≡ b .r) × (j < b .j)) → T (test r j) → b .cost < cost r j
+
+  pub best-found : (layouts : ℕ) → bestOf cost test n layouts .cost ≢ 2 ^ 64 - 1 → Found layouts (bestOf cost test n layouts)
+  best-found layouts h = go (sofar-of layouts .which)
+    where
+      go : (bestOf cost test n layouts ≡ nothing) ⊎ Winner layouts 0 (bestOf cost test n layouts) → Found layouts (bestOf cost test n layouts)
+      go (inl e) = absurd (h (ap (λ (b : Best). b .cost) e))
+      go (inr w) = record {
+        layout = below (w .reached);
+        turn = w .turn;
+        passes = w .passes;
+        price = w .price;
+        least = λ r j lr lj t. sofar-of layouts .all r j lj (inl lr) t;
+        first = w .first;
+      }
+        where
+          below : Before (bestOf cost test n layouts .r) (bestOf cost test n layouts .j) layouts 0 → bestOf cost test n layouts .r < layouts
+          below (inl x) = x
+          below (inr (e, x)) = absurd (omega arith)
+
+  -- nothing found: none passes
+  pub best-none : (layouts : ℕ) → bestOf cost test n layouts .cost ≡ 2 ^ 64 - 1 → (r j : ℕ) → r < layouts → j < n → cost r j < 2 ^ 64 - 1 → T (not (test r j))
+  best-none layouts h r j lr lj lc = not-T (test r j) (λ t. omega (arith, sofar-of layouts .all r j lj (inl lr) t))
+
+-- in the terms of rule S: no rotation that passes goes before the one found
+module _ {cost : ℕ → ℕ → ℕ} {test : ℕ → ℕ → Bool} {n layouts : ℕ} {b : Best} (f : Found cost test n layouts b) (i : Input) (bucket : ℕ)
+    (same : (r j : ℕ) → r < layouts → j < n → Seed.cost i bucket (seedOf i (record { r = r; j = j })) ≡ cost r j) where
+  pub found-first : (r j : ℕ) → r < layouts → j < n → T (test r j) → T (not (cheaper i bucket (record { r = r; j = j }) (record { r = b .r; j = b .j })))
+  unfolding cheaper
+  found-first r j lr lj t =
+      rw (same r j lr lj, same (b .r) (b .j) (f .layout) (f .turn), ← f .price)
+      (not-or (ltb (cost r j) (b .cost)) (not (ltb (b .cost) (cost r j)) && later) (le→nltb (cost r j) (b .cost) (f .least r j lr lj t)) (⊎-elim
+      (λ (h : b .cost < cost r j). not-and-left (not (ltb (b .cost) (cost r j))) later (not-not (ltb (b .cost) (cost r j)) (lt→ltb (b .cost) (cost r j) h)))
+      (λ (h : cost r j ≤ b .cost). not-and-right (not (ltb (b .cost) (cost r j))) later (not-or (ltb r (b .r)) (not (ltb (b .r) r) && ltb j (b .j))
+      (le→nltb r (b .r) (no-layout h))
+      (⊎-elim
+      (λ (x : b .r < r). not-and-left (not (ltb (b .r) r)) (ltb j (b .j)) (not-not (ltb (b .r) r) (lt→ltb (b .r) r x)))
+      (λ (x : r ≤ b .r). not-and-right (not (ltb (b .r) r)) (ltb j (b .j)) (le→nltb j (b .j) (no-turn h x)))
+      (lt-or-ge (b .r) r))))
+      (lt-or-ge (b .cost) (cost r j))))
+    where
+      later : Bool
+      later = ltb r (b .r) || (not (ltb (b .r) r) && ltb j (b .j))
+
+      no-layout : cost r j ≤ b .cost → b .r ≤ r
+      no-layout h = ⊎-elim (λ (x : r < b .r). absurd (omega (arith, f .first r j lj (inl x) t))) (λ (x : b .r ≤ r). x) (lt-or-ge r (b .r))
+
+      no-turn : cost r j ≤ b .cost → r ≤ b .r → b .j ≤ j
+      no-turn h x = ⊎-elim
+          (λ (y : j < b .j).
+          let e : r ≡ b .r = omega (arith, no-layout h) in
+          absurd (omega (arith, f .first r j lj (inr (e, y)) t)))
+          (λ (y : b .j ≤ j). y)
+          (lt-or-ge j (b .j))

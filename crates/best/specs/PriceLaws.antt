@@ -1,4 +1,4 @@
--- What is known of free rotations, and of the layouts' parts of keys and free words. Assumes nothing.
+-- What is known of free rotations and of costs, and what the loop of `cost` adds up. Assumes nothing.
 use mathlib.Core.Path.{_≡_, refl, sym, ap, _∙_}
 use mathlib.Core.Bool.{Bool, not}
 use mathlib.Core.List.{List}
@@ -24,6 +24,17 @@ free-one free j h = eq→eqb (slot free j) 1 h
 pub free-zero : (free : List ℕ) (j : ℕ) → slot free j ≡ 0 → T (not (isFree free j))
 unfolding isFree
 free-zero free j h = neq→neqb (slot free j) 1 (λ e. omega arith)
+
+-- ---- a cost is never that of nothing
+
+cost-le : (g : Ring) (table keys : List ℕ) (j i : ℕ) → ((k : ℕ) → getD table k 0 < 2 ^ 32) → costTo g table keys j i ≤ 4294967295 * i
+unfolding costTo
+cost-le g table keys j zero w = omega arith
+cost-le g table keys j (suc i) w = omega (arith, cost-le g table keys j i w, w (entryAt g (getD keys i 0) j))
+
+pub cost-lt : (g : Ring) (table keys : List ℕ) (j : ℕ) → ((k : ℕ) → getD table k 0 < 2 ^ 32) → length keys < 2 ^ 32 → costAt g table keys j < 2 ^ 64 - 1
+unfolding costAt
+cost-lt g table keys j w h = omega (arith, cost-le g table keys j (length keys) w)
 
 -- ---- the loop of `cost`, whose step is j 2^t and whose mask is (n - 1) 2^t
 

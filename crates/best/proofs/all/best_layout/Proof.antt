@@ -6,6 +6,7 @@ use Rattle.rings.specs.Keys.{costAt}
 use Rattle.best.specs.Best.{bestFrom}
 use Rattle.best.specs.BestLaws.{from-none}
 use Rattle.best.specs.Prices.{isFree}
+use Rattle.best.specs.PriceLaws.{free-zero}
 use Rattle.best.specs.Walk.{word-more, word-end}
 use borrow.Author.Needs.{needs}
 use Rattle.best.proofs.all.best_layout.Statement.{statement}
@@ -42,7 +43,7 @@ loop-again c = (omega arith, word-more _ _ _ _ _ (c .before .before .loop .inv .
 
 -- src/all.rt:39:1
 returns : tie.Need-returns Inv-loop μ-loop
-returns c = word-end _ _ _ _ _ (c .before .loop .w) (c .before .before .before .before .before .pre .1 .1) (c .loop-test .left) (c .before .loop .inv .1)
+returns c = let s = c .before .before .before .before .before in word-end _ _ _ _ _ _ (c .before .loop .w) (free-zero (s .args .free .now)) (s .pre .1 .1) (c .loop-test .left) (c .before .loop .inv .1)
 
 pub best-layout-spec : {M : Type 1} → statement M
 best-layout-spec =

@@ -2,7 +2,9 @@ use native.Mathlib.Omega.{arith}
 use borrow.Author.Needs.{needs}
 use Rattle.words.specs.CountLaws.{clear-less}
 use Rattle.rings.specs.Keys.{costAt}
-use Rattle.best.specs.Walk.{Walk, walk-start, walk-lt, walk-more, walk-end}
+use Rattle.best.specs.Prices.{isFree}
+use Rattle.best.specs.PriceLaws.{free-one, free-zero}
+use Rattle.best.specs.Walk.{Walk, walk-start, walk-lt, walk-free, walk-pass, walk-end}
 use Rattle.best.proofs.all.best_word.Statement.{statement}
 use Rattle.best.proofs.all.best_word.Tie as tie
 use Rattle.best.proofs.all.best_word.Reads as reads
@@ -10,7 +12,7 @@ use Rattle.best.proofs.all.best_word.Lts as lts
 use Rattle.best.proofs.price.better_of.Reads as better-of-reads
 
 abbrev Inv-loop : tie.InvT-loop
-Inv-loop g table keys free w r best₀ left₀ best left = Walk (costAt g table keys) free r w best₀ left best
+Inv-loop g table keys free w r best₀ left₀ best left = Walk (costAt g table keys) (isFree free) free r w best₀ left best
 
 abbrev μ-loop : tie.MeasureT-loop
 μ-loop g table keys free w r best₀ left₀ best left = left
@@ -25,7 +27,7 @@ shared-slice-read-left c = search needs
 
 -- src/all.rt:30:5
 loop-holds : tie.Need-loop-holds Inv-loop μ-loop
-loop-holds c = walk-start _ _ _ _ _ (c .shared-slice-known4 .given _ .fits)
+loop-holds c = let s = c .before .before .before .before in walk-start _ _ _ _ _ _ (free-zero (s .args .free .now)) (c .shared-slice-known4 .given _ .fits)
 
 -- src/all.rt:31:17
 mul-j : tie.Need-mul-j Inv-loop μ-loop
@@ -53,7 +55,9 @@ loop-less c = clear-less _ (c .before .loop-test .taken)
 
 -- src/all.rt:30:5
 loop-again : tie.Need-loop-again Inv-loop μ-loop
-loop-again c = walk-more (c .before .before .loop .inv) (c .before .loop-test .taken) (c .better-of .ensures)
+loop-again c = let a = c .before .before .loop .inv in
+    let n = c .before .loop-test .taken in
+    walk-pass a n (free-one _ _ (walk-free a n)) (c .better-of .ensures)
 
 -- src/all.rt:14:1
 returns : tie.Need-returns Inv-loop μ-loop
