@@ -1,13 +1,12 @@
+-- The best so far is that of the layouts below r (`Trying`), whose parts begin at r size and r count. The measure is the number of layouts left.
+-- Assumes nothing.
 use mathlib.Core.Path.{_≡_}
-use Prim.Native.Nat.{ℕ, _-_, _*_}
+use Prim.Native.Nat.{_-_, _*_}
 use native.Mathlib.Omega.{arith}
-use Rattle.best.specs.Layouts.{Trying, trying-none, trying-more, trying-end, row-le, prices-layout, ended-layout, layout-range}
 use borrow.Author.Needs.{needs}
+use Rattle.best.specs.Layouts.{Trying, trying-none, trying-more, trying-end, row-le, prices-layout, ended-layout, layout-range}
 use Rattle.best.proofs.all.best_all.Statement.{statement}
 use Rattle.best.proofs.all.best_all.Tie as tie
-use Rattle.best.proofs.all.best_all.Reads as reads
-use Rattle.best.proofs.all.best_all.Lts as lts
-use Rattle.best.proofs.all.best_layout.Reads as best-layout-reads
 
 abbrev Inv-loop : tie.InvT-loop
 Inv-loop g table keys size free count layouts best₀ a₀ f₀ r₀ best a f r = Trying g table keys size free count layouts r best × (a ≡ r * size) × (f ≡ r * count)
@@ -15,83 +14,70 @@ Inv-loop g table keys size free count layouts best₀ a₀ f₀ r₀ best a f r 
 abbrev μ-loop : tie.MeasureT-loop
 μ-loop g table keys size free count layouts best₀ a₀ f₀ r₀ best a f r = layouts - r
 
--- src/all.rt:78:5
 loop-holds : tie.Need-loop-holds Inv-loop μ-loop
 loop-holds c = (trying-none _ _ _ _ _ _ _, omega arith, omega arith)
 
--- src/all.rt:79:47
 add-best-layout : tie.Need-add-best-layout Inv-loop μ-loop
 add-best-layout c = let s = c .before .before .before .before .before in omega (arith, row-le _ _ (s .args .size) (c .loop-test .taken))
 
--- src/all.rt:79:38
 mul-best-layout : tie.Need-mul-best-layout Inv-loop μ-loop
 mul-best-layout c = let s = c .before .before .before .before .before in omega (arith, row-le _ _ (s .args .size) (c .loop-test .taken))
 
--- src/all.rt:79:38
 sub-best-layout : tie.Need-sub-best-layout Inv-loop μ-loop
 sub-best-layout c = let s = c .before .before .before .before .before in omega (arith, row-le _ _ (s .args .size) (c .loop-test .taken))
 
--- src/all.rt:79:38
 part-best-layout-start : tie.Need-part-best-layout-start Inv-loop μ-loop
 part-best-layout-start c = let s = c .before .before .before .before .before in omega (arith, row-le _ _ (s .args .size) (c .loop-test .taken))
 
--- src/all.rt:79:38
 part-best-layout-end : tie.Need-part-best-layout-end Inv-loop μ-loop
 part-best-layout-end c = let s = c .before .before .before .before .before in omega (arith, row-le _ _ (s .args .size) (c .loop-test .taken))
 
--- src/all.rt:79:67
 add-best-layout-2 : tie.Need-add-best-layout-2 Inv-loop μ-loop
 add-best-layout-2 c = let s = c .before .before .before .before .before .before in omega (arith, row-le _ _ (s .args .count) (c .before .loop-test .taken))
 
--- src/all.rt:79:58
 mul-best-layout-2 : tie.Need-mul-best-layout-2 Inv-loop μ-loop
 mul-best-layout-2 c = let s = c .before .before .before .before .before .before in omega (arith, row-le _ _ (s .args .count) (c .before .loop-test .taken))
 
--- src/all.rt:79:58
 sub-best-layout-2 : tie.Need-sub-best-layout-2 Inv-loop μ-loop
 sub-best-layout-2 c = let s = c .before .before .before .before .before .before in omega (arith, row-le _ _ (s .args .count) (c .before .loop-test .taken))
 
--- src/all.rt:79:58
 part-best-layout-start-2 : tie.Need-part-best-layout-start-2 Inv-loop μ-loop
 part-best-layout-start-2 c = let s = c .before .before .before .before .before .before in omega (arith, row-le _ _ (s .args .count) (c .before .loop-test .taken))
 
--- src/all.rt:79:58
 part-best-layout-end-2 : tie.Need-part-best-layout-end-2 Inv-loop μ-loop
 part-best-layout-end-2 c = let s = c .before .before .before .before .before .before in omega (arith, row-le _ _ (s .args .count) (c .before .loop-test .taken))
 
--- src/all.rt:79:9
 best-layout-requires : tie.Need-best-layout-requires Inv-loop μ-loop
 best-layout-requires c κs = let s = c .before .before .before .before .before .before .before in
     let l = c .before .before .before .loop in
-    let lt = c .before .before .loop-test .taken in
-    (s .pre .0,
-    (rw (layout-range (s .args .keys .now) (s .args .size) (l .r) (l .inv .1)) (prices-layout (s .args .size) (s .args .layouts) (l .r) (s .pre .1 .0) (s .pre .1 .1 .0 .0) lt),
-    rw (layout-range (s .args .free .now) (s .args .count) (l .r) (l .inv .2)) (ended-layout (l .r) (s .pre .1 .1 .1) (s .pre .1 .1 .0 .1) lt)))
+    let lt = c .before .before .loop-test .taken in (
+      s .pre .0,
+      (
+        rw (layout-range (s .args .keys .now) (s .args .size) (l .r) (l .inv .1)) (prices-layout (s .args .size) (s .args .layouts) (l .r) (s .pre .1 .0) (s .pre .1 .1 .0 .0) lt),
+        rw (layout-range (s .args .free .now) (s .args .count) (l .r) (l .inv .2)) (ended-layout (l .r) (s .pre .1 .1 .1) (s .pre .1 .1 .0 .1) lt),
+      ),
+    )
 
--- src/all.rt:80:9
 add-a : tie.Need-add-a Inv-loop μ-loop
 add-a c = let s = c .before .before .before .before .before .before .before .before in omega (arith, row-le _ _ (s .args .size) (c .before .before .before .loop-test .taken))
 
--- src/all.rt:81:9
 add-f : tie.Need-add-f Inv-loop μ-loop
 add-f c = let s = c .before .before .before .before .before .before .before .before in omega (arith, row-le _ _ (s .args .count) (c .before .before .before .loop-test .taken))
 
--- src/all.rt:82:9
 add-r : tie.Need-add-r Inv-loop μ-loop
 add-r c = search needs
 
--- src/all.rt:78:5
 loop-less : tie.Need-loop-less Inv-loop μ-loop
 loop-less c = search needs
 
--- src/all.rt:78:5
 loop-again : tie.Need-loop-again Inv-loop μ-loop
 loop-again c = let s = c .before .before .before .before .before .before .before .before in
-    let l = c .before .before .before .before .loop in
-    (trying-more (l .inv .0) (c .before .before .before .loop-test .taken) (layout-range (s .args .keys .now) (s .args .size) (l .r) (l .inv .1)) (layout-range (s .args .free .now) (s .args .count) (l .r) (l .inv .2)) (c .best-layout .ensures),
-    omega arith, omega arith)
+    let l = c .before .before .before .before .loop in (
+      trying-more (l .inv .0) (c .before .before .before .loop-test .taken) (layout-range (s .args .keys .now) (s .args .size) (l .r) (l .inv .1)) (layout-range (s .args .free .now) (s .args .count) (l .r) (l .inv .2)) (c .best-layout .ensures),
+      omega arith,
+      omega arith,
+    )
 
--- src/all.rt:55:1
 returns : tie.Need-returns Inv-loop μ-loop
 returns c = trying-end (c .before .loop .inv .0) (c .loop-test .left)
 

@@ -1,3 +1,4 @@
+-- The loop is a `Walk` over the word's set bits: each is a free rotation, so it passes the test. The measure is what is left of the word. Assumes nothing.
 use native.Mathlib.Omega.{arith}
 use borrow.Author.Needs.{needs}
 use Rattle.words.specs.CountLaws.{clear-less}
@@ -7,9 +8,6 @@ use Rattle.best.specs.PriceLaws.{free-one, free-zero}
 use Rattle.best.specs.Walk.{Walk, walk-start, walk-lt, walk-free, walk-pass, walk-end}
 use Rattle.best.proofs.all.best_word.Statement.{statement}
 use Rattle.best.proofs.all.best_word.Tie as tie
-use Rattle.best.proofs.all.best_word.Reads as reads
-use Rattle.best.proofs.all.best_word.Lts as lts
-use Rattle.best.proofs.price.better_of.Reads as better-of-reads
 
 abbrev Inv-loop : tie.InvT-loop
 Inv-loop g table keys free w r best₀ left₀ best left = Walk (costAt g table keys) (isFree free) free r w best₀ left best
@@ -17,49 +15,38 @@ Inv-loop g table keys free w r best₀ left₀ best left = Walk (costAt g table 
 abbrev μ-loop : tie.MeasureT-loop
 μ-loop g table keys free w r best₀ left₀ best left = left
 
--- src/all.rt:29:20
 mul-left : tie.Need-mul-left Inv-loop μ-loop
 mul-left c = search needs
 
--- src/all.rt:29:20
 shared-slice-read-left : tie.Need-shared-slice-read-left Inv-loop μ-loop
 shared-slice-read-left c = search needs
 
--- src/all.rt:30:5
 loop-holds : tie.Need-loop-holds Inv-loop μ-loop
 loop-holds c = let s = c .before .before .before .before in walk-start _ _ _ _ _ _ (free-zero (s .args .free .now)) (c .shared-slice-known4 .given _ .fits)
 
--- src/all.rt:31:17
 mul-j : tie.Need-mul-j Inv-loop μ-loop
 mul-j c = search needs
 
--- src/all.rt:31:26
 cast-j : tie.Need-cast-j Inv-loop μ-loop
 cast-j c = omega (arith, walk-lt (c .before .loop .inv) (c .loop-test .taken))
 
--- src/all.rt:31:17
 add-j : tie.Need-add-j Inv-loop μ-loop
 add-j c = omega (arith, walk-lt (c .before .loop .inv) (c .loop-test .taken))
 
--- src/all.rt:32:9
 better-of-requires : tie.Need-better-of-requires Inv-loop μ-loop
 better-of-requires c κs = let s = c .before .before .before .before .before .before in (s .pre .0, (s .pre .1 .0, omega (arith, walk-lt (c .before .loop .inv) (c .loop-test .taken))))
 
--- src/all.rt:33:24
 sub-left : tie.Need-sub-left Inv-loop μ-loop
 sub-left c = search needs
 
--- src/all.rt:30:5
 loop-less : tie.Need-loop-less Inv-loop μ-loop
 loop-less c = clear-less _ (c .before .loop-test .taken)
 
--- src/all.rt:30:5
 loop-again : tie.Need-loop-again Inv-loop μ-loop
 loop-again c = let a = c .before .before .loop .inv in
     let n = c .before .loop-test .taken in
     walk-pass a n (free-one _ _ (walk-free a n)) (c .better-of .ensures)
 
--- src/all.rt:14:1
 returns : tie.Need-returns Inv-loop μ-loop
 returns c = walk-end (c .before .loop .inv) (c .loop-test .left)
 

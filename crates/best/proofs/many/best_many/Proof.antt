@@ -1,16 +1,15 @@
+-- The best so far is that of the layouts below r (`Trying`), and what is below `up` is kept, so each layout's parts are still those of the list at entry.
+-- The measure is the number of layouts left. Assumes nothing.
 use mathlib.Core.Path.{_≡_}
-use Prim.Native.Nat.{ℕ, _+_, _-_, _*_}
+use Prim.Native.Nat.{_+_, _-_, _*_}
 use native.Mathlib.Omega.{arith}
+use borrow.Author.Needs.{needs}
 use Rattle.rings.specs.Parts.{part, length-part}
 use Rattle.best.specs.Wraps.{Kept}
 use Rattle.best.specs.WrapLaws.{kept-self, kept-on}
 use Rattle.best.specs.Layouts.{Trying, trying-none, trying-more, trying-end, row-le, prices-layout, layout-part}
-use borrow.Author.Needs.{needs}
 use Rattle.best.proofs.many.best_many.Statement.{statement}
 use Rattle.best.proofs.many.best_many.Tie as tie
-use Rattle.best.proofs.many.best_many.Reads as reads
-use Rattle.best.proofs.many.best_many.Lts as lts
-use Rattle.best.proofs.many.best_between.Reads as best-between-reads
 
 abbrev Inv-loop : tie.InvT-loop
 Inv-loop g table work₀ at size to count up layouts best₀ a₀ f₀ r₀ work best a f r = (Trying g table (part work₀ at (layouts * size)) size (part work₀ to (layouts * count)) count layouts r best × Kept up work₀ work) × (a ≡ at + r * size) × (f ≡ to + r * count)
@@ -18,57 +17,55 @@ Inv-loop g table work₀ at size to count up layouts best₀ a₀ f₀ r₀ work
 abbrev μ-loop : tie.MeasureT-loop
 μ-loop g table work₀ at size to count up layouts best₀ a₀ f₀ r₀ work best a f r = layouts - r
 
--- src/many.rt:126:5
 loop-holds : tie.Need-loop-holds Inv-loop μ-loop
 loop-holds c = ((trying-none _ _ _ _ _ _ _, kept-self _ _), omega arith, omega arith)
 
--- src/many.rt:127:9
 best-between-requires : tie.Need-best-between-requires Inv-loop μ-loop
 best-between-requires c κs = let s = c .before .before .before .before .before in
     let p = s .pre .1 .1 in
     let l = c .before .before .loop in
     let lt = c .before .loop-test .taken in
     let k = row-le (l .r) (s .args .layouts) (s .args .size) lt in
-    let f = row-le (l .r) (s .args .layouts) (s .args .count) lt in
-    (s .pre .0,
-    (rw (layout-part (s .args .at) (s .args .size) (s .args .layouts) (l .r) (l .a) (l .inv .0 .1) (omega arith) lt (l .inv .1))
-    (prices-layout (s .args .size) (s .args .layouts) (l .r) (s .pre .1 .0) (length-part (s .args .work .now) (s .args .at) (s .args .layouts * s .args .size) (omega arith)) lt),
-    (omega arith, omega arith, omega (arith, l .inv .0 .1 .len), p .3)))
+    let f = row-le (l .r) (s .args .layouts) (s .args .count) lt in (
+      s .pre .0,
+      (
+        rw (layout-part (s .args .at) (s .args .size) (s .args .layouts) (l .r) (l .a) (l .inv .0 .1) (omega arith) lt (l .inv .1))
+            (prices-layout (s .args .size) (s .args .layouts) (l .r) (s .pre .1 .0) (length-part (s .args .work .now) (s .args .at) (s .args .layouts * s .args .size) (omega arith)) lt),
+        (omega arith, omega arith, omega (arith, l .inv .0 .1 .len), p .3),
+      ),
+    )
 
--- src/many.rt:128:9
 add-a : tie.Need-add-a Inv-loop μ-loop
 add-a c = let s = c .before .before .before .before .before .before .before .before in omega (arith, row-le _ _ (s .args .size) (c .before .before .before .before .loop-test .taken))
 
--- src/many.rt:129:9
 add-f : tie.Need-add-f Inv-loop μ-loop
 add-f c = let s = c .before .before .before .before .before .before .before .before in omega (arith, row-le _ _ (s .args .count) (c .before .before .before .before .loop-test .taken))
 
--- src/many.rt:130:9
 add-r : tie.Need-add-r Inv-loop μ-loop
 add-r c = search needs
 
--- src/many.rt:126:5
 loop-less : tie.Need-loop-less Inv-loop μ-loop
 loop-less c = search needs
 
--- src/many.rt:126:5
 loop-again : tie.Need-loop-again Inv-loop μ-loop
 loop-again c = let s = c .before .before .before .before .before .before .before .before in
     let l = c .before .before .before .before .before .loop in
     let lt = c .before .before .before .before .loop-test .taken in
-    let e = c .before .before .best-between .ensures in
-    ((trying-more (l .inv .0 .0) lt
-    (layout-part (s .args .at) (s .args .size) (s .args .layouts) (l .r) (l .a) (l .inv .0 .1) (omega arith) lt (l .inv .1))
-    (layout-part (s .args .to) (s .args .count) (s .args .layouts) (l .r) (l .f) (l .inv .0 .1) (omega arith) lt (l .inv .2))
-    (e .0),
-    kept-on (l .inv .0 .1) (e .1)),
-    omega arith, omega arith)
+    let e = c .before .before .best-between .ensures in (
+      (
+        trying-more (l .inv .0 .0) lt
+            (layout-part (s .args .at) (s .args .size) (s .args .layouts) (l .r) (l .a) (l .inv .0 .1) (omega arith) lt (l .inv .1))
+            (layout-part (s .args .to) (s .args .count) (s .args .layouts) (l .r) (l .f) (l .inv .0 .1) (omega arith) lt (l .inv .2))
+            (e .0),
+        kept-on (l .inv .0 .1) (e .1),
+      ),
+      omega arith,
+      omega arith,
+    )
 
--- src/many.rt:102:1
 same-length : tie.Need-same-length Inv-loop μ-loop
 same-length c = c .before .loop .inv .0 .1 .len
 
--- src/many.rt:102:1
 returns : tie.Need-returns Inv-loop μ-loop
 returns c = (trying-end (c .before .loop .inv .0 .0) (c .loop-test .left), c .before .loop .inv .0 .1)
 

@@ -1,26 +1,19 @@
+-- `next_set` gives the first free rotation of the segment, and costs never fall from there on. Assumes nothing.
 use native.Mathlib.Omega.{arith}
-use Rattle.best.specs.Segments.{segment-first, segment-none}
 use borrow.Author.Needs.{needs}
+use Rattle.best.specs.Segments.{segment-first, segment-none}
 use Rattle.best.proofs.many.best_segment.Statement.{statement}
 use Rattle.best.proofs.many.best_segment.Tie as tie
-use Rattle.best.proofs.many.best_segment.Reads as reads
-use Rattle.best.proofs.many.best_segment.Lts as lts
-use Rattle.best.proofs.price.better_of.Reads as better-of-reads
-use Rattle.words.proofs.next_set.Reads as next-set-reads
 
--- src/many.rt:35:9
 next-set-requires : tie.Need-next-set-requires
 next-set-requires c κs = search needs
 
--- src/many.rt:37:9
 better-of-requires : tie.Need-better-of-requires
 better-of-requires c κs = let s = c .before .before .before .before .before in (s .pre .0, (s .pre .1 .0, omega arith))
 
--- src/many.rt:37:9
 returns : tie.Need-returns
 returns c = let s = c .before .before .before .before .before .before in segment-first _ _ _ _ _ _ (omega arith) (s .pre .1 .1 .1) (c .before .before .next-set .ensures .0) (c .before .if1 .taken) (c .better-of .ensures)
 
--- src/many.rt:19:1
 returns-2 : tie.Need-returns-2
 returns-2 c = segment-none _ _ _ _ _ _ (omega arith) (c .before .next-set .ensures .0) (c .if1 .left)
 

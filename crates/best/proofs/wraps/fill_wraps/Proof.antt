@@ -1,13 +1,9 @@
+-- The set has the points of the keys below i (`Pointing`), which lie below the set and stay. The measure is the number of keys left. Assumes nothing.
 use Prim.Native.Nat.{_-_}
-use native.Mathlib.Omega.{arith}
-use Rattle.best.specs.WrapLaws.{Pointing, pointing-none, pointing-more, pointing-end}
 use borrow.Author.Needs.{needs}
+use Rattle.best.specs.WrapLaws.{Pointing, pointing-none, pointing-more, pointing-end}
 use Rattle.best.proofs.wraps.fill_wraps.Statement.{statement}
 use Rattle.best.proofs.wraps.fill_wraps.Tie as tie
-use Rattle.best.proofs.wraps.fill_wraps.Reads as reads
-use Rattle.best.proofs.wraps.fill_wraps.Lts as lts
-use Rattle.best.proofs.wraps.clear.Reads as clear-reads
-use Rattle.best.proofs.wraps.set_point.Reads as set-point-reads
 
 abbrev Inv-loop : tie.InvT-loop
 Inv-loop g work₀ at size up count i₀ work i = Pointing g work₀ at size up count i work
@@ -15,47 +11,36 @@ Inv-loop g work₀ at size up count i₀ work i = Pointing g work₀ at size up 
 abbrev μ-loop : tie.MeasureT-loop
 μ-loop g work₀ at size up count i₀ work i = size - i
 
--- src/wraps.rt:45:5
 clear-requires : tie.Need-clear-requires Inv-loop μ-loop
 clear-requires c κs = search needs
 
--- src/wraps.rt:47:5
 loop-holds : tie.Need-loop-holds Inv-loop μ-loop
 loop-holds c = pointing-none _ _ _ (c .before .before .clear .ensures)
 
--- src/wraps.rt:48:22
 add-d : tie.Need-add-d Inv-loop μ-loop
 add-d c = search needs
 
--- src/wraps.rt:48:17
 mul-d : tie.Need-mul-d Inv-loop μ-loop
 mul-d c = search needs
 
--- src/wraps.rt:48:17
 slice-read-d : tie.Need-slice-read-d Inv-loop μ-loop
 slice-read-d c = search needs
 
--- src/wraps.rt:49:9
 set-point-requires : tie.Need-set-point-requires Inv-loop μ-loop
 set-point-requires c κs = search needs
 
--- src/wraps.rt:50:9
 add-i : tie.Need-add-i Inv-loop μ-loop
 add-i c = search needs
 
--- src/wraps.rt:47:5
 loop-less : tie.Need-loop-less Inv-loop μ-loop
 loop-less c = search needs
 
--- src/wraps.rt:47:5
 loop-again : tie.Need-loop-again Inv-loop μ-loop
 loop-again c = pointing-more (c .before .before .before .before .before .before .loop .inv) (c .before .before .before .before .before .loop-test .taken) (c .before .before .before .before .before .before .before .before .before .before .before .before .pre .1 .0) (c .before .before .set-point .ensures)
 
--- src/wraps.rt:40:1
 same-length : tie.Need-same-length Inv-loop μ-loop
 same-length c = search needs
 
--- src/wraps.rt:40:1
 returns : tie.Need-returns Inv-loop μ-loop
 returns c = pointing-end (c .before .loop .inv) (c .loop-test .left) (c .before .before .before .before .before .before .before .pre .1 .0) (c .before .before .before .before .clear .ensures)
 

@@ -1,53 +1,39 @@
-use native.Mathlib.Omega.{arith}
-use Rattle.best.specs.WrapLaws.{point-none, point-set}
+-- A key at place 0 has no wrap point; any other has the bit n - x, which is one of the set's. Assumes nothing.
 use borrow.Author.Needs.{needs}
+use Rattle.best.specs.WrapLaws.{point-none, point-set}
 use Rattle.best.proofs.wraps.set_point.Statement.{statement}
 use Rattle.best.proofs.wraps.set_point.Tie as tie
-use Rattle.best.proofs.wraps.set_point.Reads as reads
-use Rattle.best.proofs.wraps.set_point.Lts as lts
-use Rattle.rings.proofs.keys.place_of.Reads as place-of-reads
 
--- src/wraps.rt:30:9
 place-of-requires : tie.Need-place-of-requires
 place-of-requires c κs = search needs
 
--- src/wraps.rt:32:9
 returns : tie.Need-returns
 returns c = point-none _ _ _ _ _ (c .before .place-of .ensures) (c .if1 .taken)
 
--- src/wraps.rt:34:13
 sub-p : tie.Need-sub-p
 sub-p c = search needs
 
--- src/wraps.rt:35:13
 add-w : tie.Need-add-w
 add-w c = search needs
 
--- src/wraps.rt:36:15
 mul-work : tie.Need-mul-work
 mul-work c = search needs
 
--- src/wraps.rt:36:15
 slice-read-work : tie.Need-slice-read-work
 slice-read-work c = search needs
 
--- src/wraps.rt:36:26
 shl-work : tie.Need-shl-work
 shl-work c = search needs
 
--- src/wraps.rt:36:5
 mul-work-2 : tie.Need-mul-work-2
 mul-work-2 c = search needs
 
--- src/wraps.rt:36:5
 slice-write-work : tie.Need-slice-write-work
 slice-write-work c = search needs
 
--- src/wraps.rt:25:1
 same-length : tie.Need-same-length
 same-length c = search needs
 
--- src/wraps.rt:25:1
 returns-2 : tie.Need-returns-2
 returns-2 c = point-set _ _ _ _ _ (c .before .before .before .place-of .ensures) (c .before .before .if1 .left) (c .before .before .before .before .before .pre .1 .1)
 
