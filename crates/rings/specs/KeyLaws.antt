@@ -1,10 +1,10 @@
 -- Ring keys: the code of `place_of` and `entry_of`, and what is known of places, entries and costs.
 -- Why: n 2^t divides 2^32, so the high half of a key does not show in a place, and the mask (n - 1) 2^t keeps the digits of the place.
 -- Assumes nothing.
-use mathlib.Core.Path.{_≡_, refl, sym, ap, ap₂, _∙_}
+use mathlib.Core.Path.{_≡_, refl, sym, ap, _∙_}
 use mathlib.Core.Logic.{⊎-elim}
 use mathlib.Core.List.{List}
-use Prim.Native.Nat.{ℕ, zero, suc, _+_, _-_, _*_, _/_, _%_, _^_, _≤_, _<_, min, max}
+use Prim.Native.Nat.{ℕ, _+_, _-_, _*_, _/_, _%_, _^_, _≤_, _<_, min}
 use native.Mathlib.Omega.{arith}
 use native.Mathlib.Nat.{mod-lt, mod-eq-of-lt, mod-add-mod, mul-le-mul-right, add-mul-div-right}
 use native.Mathlib.Numerals.{add-one}
@@ -21,7 +21,7 @@ use Rattle.rings.specs.declared.Ring.{Ring}
 use Rattle.rings.specs.Ring.{Shape, Word, ringBit, ringOf}
 use Rattle.rings.specs.Rows.{Ring64}
 use Rattle.rings.specs.Keys.{placeAt, entryAt, slotAt, Key, KeyRow, costTo, costAt}
-use Rattle.rings.specs.RingLaws.{n-pos, n-le, step-lt}
+use Rattle.rings.specs.RingLaws.{n-pos, step-lt}
 
 -- ---- places
 
@@ -71,9 +71,9 @@ place-whole g s d j =
     let low : d % 2 ^ 32 / 2 ^ (g .t) ≡ d / 2 ^ (g .t) % 2 ^ (32 - g .t) = mod-div-le d 32 (g .t) (omega (arith, s .stride)) in
     let cut : d / 2 ^ (g .t) % 2 ^ (32 - g .t) % 2 ^ (s .k) ≡ d / 2 ^ (g .t) % 2 ^ (s .k) = mod-mod-le (d / 2 ^ (g .t)) (32 - g .t) (s .k) (omega (arith, span-pow g s)) in
     rw (add-mul-div-right d j (pow-pos (g .t)), s .ring, low) (
-      sym (mod-add-mod (d / 2 ^ (g .t)) (2 ^ (s .k)) j)
-      ∙ ap (λ (x : ℕ). (x + j) % 2 ^ (s .k)) (sym cut)
-      ∙ mod-add-mod (d / 2 ^ (g .t) % 2 ^ (32 - g .t)) (2 ^ (s .k)) j)
+    sym (mod-add-mod (d / 2 ^ (g .t)) (2 ^ (s .k)) j)
+    ∙ ap (λ (x : ℕ). (x + j) % 2 ^ (s .k)) (sym cut)
+    ∙ mod-add-mod (d / 2 ^ (g .t) % 2 ^ (32 - g .t)) (2 ^ (s .k)) j)
 
 pub mask-lt : (g : Ring) → Shape g → (g .n - 1) * 2 ^ (g .t) < 65536
 mask-lt g s = step-lt g s (g .n - 1) (omega (arith, n-pos g s))

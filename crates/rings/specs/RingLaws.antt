@@ -6,7 +6,7 @@ use mathlib.Core.Logic.{⊎-elim}
 use mathlib.Core.List.{List}
 use Prim.Native.Nat.{ℕ, suc, _+_, _-_, _*_, _/_, _%_, _^_, _≤_, _<_}
 use native.Mathlib.Omega.{arith}
-use native.Mathlib.Nat.{mod-lt, mod-eq-of-lt, mod-add-mod, div-add-mod, mod-le, mul-le-mul-left, mul-le-mul-right}
+use native.Mathlib.Nat.{mod-lt, mod-eq-of-lt, div-add-mod, mod-le, mul-le-mul-left, mul-le-mul-right}
 use lib.Arith.{digits-div, digits-mod, mod-mul}
 use lib.ListN.{getD}
 use lib.Bits.{bitAnd, and-mask}
@@ -16,7 +16,7 @@ use Rattle.words.specs.ShiftLaws.{one-shl}
 use Rattle.words.specs.Cases.{lt-or-ge}
 use Rattle.integers.specs.Division.{mod-apart}
 use Rattle.rings.specs.declared.Ring.{Ring}
-use Rattle.rings.specs.Ring.{Shape, Word, wordOf, bitOf, ringBit}
+use Rattle.rings.specs.Ring.{Shape, wordOf, bitOf, ringBit}
 
 -- ---- where a slot lives
 
@@ -60,6 +60,7 @@ same-mod t e p q hw hb =
     let c : p / 2 ^ t / 64 % 2 ^ e ≡ q / 2 ^ t / 64 % 2 ^ e = sym (digits-div (p / 2 ^ t / 64 % 2 ^ e) dp) ∙ ap (λ (x : ℕ). x / 2 ^ t) w ∙ digits-div (q / 2 ^ t / 64 % 2 ^ e) dq in
     let r : p % 2 ^ t ≡ q % 2 ^ t = sym (digits-mod (p / 2 ^ t / 64 % 2 ^ e) dp) ∙ ap (λ (x : ℕ). x % 2 ^ t) w ∙ digits-mod (q / 2 ^ t / 64 % 2 ^ e) dq in
     slot-mod t e p ∙ rw (c, hb, r) (sym (slot-mod t e q))
+
 ring-slots : (t e : ℕ) → 64 * 2 ^ (e + t) ≡ 2 ^ e * 64 * 2 ^ t
 ring-slots t e = ap (λ (x : ℕ). 64 * x) (pow-add 2 e t) ∙ omega arith
 

@@ -1,6 +1,6 @@
 // What a ring key has to say: its place in its ring, its entry of the table and its slot at a rotation.
 ghost use mathlib.Core.Path.{_≡_};
-ghost use Prim.Native.Nat.{ℕ, _+_, _*_, _/_, _^_, _<_, _≤_};
+ghost use Prim.Native.Nat.{_+_, _*_, _/_, _^_, _<_, _≤_};
 ghost use lib.ListN.{length};
 ghost use Rattle.rings.specs.Ring.{Shape, Word};
 ghost use Rattle.rings.specs.Keys.{placeAt, entryAt, slotAt, Key, KeyRow};

@@ -1,11 +1,13 @@
 // Rows: 64 slots that stand 2^t apart, as the bits of a word.
 ghost use mathlib.Core.Path.{_≡_};
-ghost use Prim.Native.Nat.{ℕ, _+_, _*_, _/_, _%_, _^_, _<_, _≤_};
+ghost use Prim.Native.Nat.{_+_, _*_, _/_, _%_, _^_, _<_, _≤_};
 ghost use lib.ListN.{length};
 ghost use Rattle.rings.specs.Ring.{Shape};
 ghost use Rattle.rings.specs.Rows.{Row, Turned, Wrapped, Ring64};
 use crate::Ring;
-use crate::slots::{bit_of, next_word, word_of};
+use crate::slots::bit_of;
+use crate::slots::next_word;
+use crate::slots::word_of;
 
 // 64 bits from bit s of lo on, which go on in hi.
 fn join(lo: u64, hi: u64, s: usize) -> u64

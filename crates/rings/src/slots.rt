@@ -1,6 +1,6 @@
 // Where the ring has a slot.
 ghost use mathlib.Core.Path.{_≡_};
-ghost use Prim.Native.Nat.{ℕ, _+_, _%_, _^_, _<_};
+ghost use Prim.Native.Nat.{_+_, _%_, _^_, _<_};
 ghost use Rattle.rings.specs.Ring.{Shape, Word, wordOf, bitOf};
 use crate::Ring;
 

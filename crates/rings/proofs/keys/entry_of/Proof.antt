@@ -1,3 +1,4 @@
+-- `entry_of` gives the table's entry: the mask (n - 1) 2^t keeps the digits of the place, and the high half is too small to overflow.
 use native.Mathlib.Omega.{arith}
 use native.Mathlib.Nat.{mod-le}
 use Prim.Native.Nat.{_*_, _^_}

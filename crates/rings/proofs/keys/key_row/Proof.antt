@@ -1,3 +1,4 @@
+-- `key_row` gives a key's slots at 64 rotations: the ring from the place that the first of them takes.
 use native.Mathlib.Omega.{arith}
 use borrow.Author.Needs.{needs}
 use Rattle.rings.specs.KeyLaws.{key-row}

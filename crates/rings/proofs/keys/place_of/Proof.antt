@@ -1,3 +1,4 @@
+-- `place_of` gives the place in the ring: the mask is the remainder by n, a power of two.
 use native.Mathlib.Omega.{arith}
 use Prim.Native.Nat.{_%_, _^_}
 use lib.Pow.{shr-le}

@@ -1,3 +1,4 @@
+-- `slot_of` gives the slot: the entry, counted from start - 95.
 use native.Mathlib.Omega.{arith}
 use borrow.Author.Needs.{needs}
 use Rattle.rings.specs.KeyLaws.{entry-ge}

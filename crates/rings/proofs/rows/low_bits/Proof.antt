@@ -1,3 +1,4 @@
+-- `low_bits` gives the remainder by 2^n: a mask below 64, and at 64 the whole word.
 use native.Mathlib.Omega.{arith}
 use native.Mathlib.Nat.{mod-eq-of-lt}
 use mathlib.Core.Path.{_≡_}

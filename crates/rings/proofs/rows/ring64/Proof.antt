@@ -1,3 +1,4 @@
+-- `ring64` gives 64 slots of a ring in three ways: a row turned, a row as it is, and two rows where the ring goes round.
 use native.Mathlib.Omega.{arith}
 use mathlib.Core.Path.{ap}
 use Prim.Native.Nat.{ℕ, _+_}

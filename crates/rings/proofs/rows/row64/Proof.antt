@@ -1,3 +1,4 @@
+-- `row64` gives the row from slot p on: the words of a slot and of the next column, joined at the slot's bit.
 use borrow.Author.Needs.{needs}
 use Rattle.rings.specs.RowLaws.{row-joined}
 use Rattle.rings.proofs.rows.row64.Statement.{statement}

@@ -1,3 +1,4 @@
+-- `turn` gives the low n bits turned by x; no shift is of 64, since n - x is taken mod 64.
 use borrow.Author.Needs.{needs}
 use Rattle.rings.specs.RowLaws.{turned}
 use Rattle.rings.proofs.rows.turn.Statement.{statement}

@@ -1,3 +1,4 @@
+-- `wrap` gives the low k bits of a under those of b.
 use borrow.Author.Needs.{needs}
 use Rattle.words.specs.ShiftLaws.{one-shl-pos}
 use Rattle.rings.specs.RowLaws.{wrapped}

@@ -1,3 +1,4 @@
+-- `bit_of` gives the slot's bit, by its definition.
 use borrow.Author.Needs.{needs}
 use Rattle.rings.specs.Ring.{bitOf}
 use Rattle.rings.proofs.slots.bit_of.Statement.{statement}

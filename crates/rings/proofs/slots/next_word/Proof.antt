@@ -1,3 +1,4 @@
+-- `next_word` gives the word one column on: the mask is the remainder by the words, a power of two.
 use native.Mathlib.Omega.{arith}
 use native.Mathlib.Nat.{mod-lt}
 use borrow.Author.Needs.{needs}

@@ -1,3 +1,4 @@
+-- `word_of` gives the slot's word: its shifts and masks are the division and the remainders of `wordOf`, and nothing overflows since a column's number is at most the slot's.
 use native.Mathlib.Omega.{arith}
 use borrow.Author.Needs.{needs}
 use Rattle.words.specs.ShiftLaws.{one-shl-pos}
