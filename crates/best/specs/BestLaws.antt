@@ -1,10 +1,10 @@
 -- Laws of `bestFrom`: one rotation more, two stretches joined, and a stretch over which the best stays. Assumes nothing.
 use mathlib.Core.Path.{_≡_, refl, sym, ap, _∙_}
 use mathlib.Core.Logic.{⊎-elim}
-use mathlib.Core.Bool.{Bool, true, false, not}
-use Prim.Native.Nat.{ℕ, zero, suc, _+_, _-_, _*_, _≤_, _<_}
+use mathlib.Core.Bool.{Bool, not}
+use Prim.Native.Nat.{ℕ, zero, suc, _+_, _-_, _≤_, _<_}
 use native.Mathlib.Omega.{arith}
-use lib.Dec.{T, ltb}
+use lib.Dec.{T}
 use borrow.Author.Tests.{lt-ltb, le-ltb}
 use Rattle.words.specs.Cases.{lt-or-ge}
 use Rattle.rules.proofs.Tests.{split, is-true, is-false}
@@ -115,13 +115,6 @@ from-one cost test r b s j e h l t before after =
     ∙ sym (from-on cost test r b j (suc j) e (omega arith) l)
     ∙ ap (λ (x : Best). bestFrom cost test r x (suc j) (e - suc j)) at
     ∙ past
-
--- tests that agree
-pub from-same : (cost : ℕ → ℕ) (test test' : ℕ → Bool) (r : ℕ) (b : Best) (s k : ℕ) → ((i : ℕ) → s ≤ i → i < s + k → test i ≡ test' i)
-    → bestFrom cost test r b s k ≡ bestFrom cost test' r b s k
-unfolding bestFrom
-from-same cost test test' r b s zero h = refl
-from-same cost test test' r b s (suc k) h = rw (h (s + k) (omega arith) (omega arith), from-same cost test test' r b s k (λ i a l. h i a (omega arith))) refl
 
 -- ---- the layouts
 

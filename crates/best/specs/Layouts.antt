@@ -3,7 +3,7 @@ use mathlib.Core.Path.{_≡_, refl, sym, ap, _∙_}
 use mathlib.Core.Logic.{_≢_}
 use mathlib.Core.Bool.{not}
 use mathlib.Core.List.{List}
-use Prim.Native.Nat.{ℕ, zero, suc, _+_, _-_, _*_, _/_, _^_, _≤_, _<_}
+use Prim.Native.Nat.{ℕ, suc, _+_, _-_, _*_, _^_, _≤_, _<_}
 use native.Mathlib.Omega.{arith}
 use native.Mathlib.Nat.{mul-le-mul-right}
 use native.Mathlib.Numerals.{add-one}
@@ -12,7 +12,7 @@ use lib.Dec.{T}
 use lib.ListN.{length, getD, take, drop, length-take, length-drop}
 use lib.Seq.{ext-getD}
 use Rattle.rings.specs.declared.Ring.{Ring}
-use Rattle.rings.specs.Keys.{costAt, Priced}
+use Rattle.rings.specs.Keys.{costAt}
 use Rattle.rings.specs.Parts.{part, part-at, length-part, part-range}
 use Rattle.best.specs.declared.Best.{Best}
 use Rattle.best.specs.Best.{nothing, bestFrom, bestOf}
@@ -30,7 +30,7 @@ row-le r layouts k h = omega (arith, mul-le-mul-right k h, more)
     more : suc r * k ≡ r * k + k
     more = omega arith
 
-part-part : (l : List ℕ) (at m i k : ℕ) → i + k ≤ m → part (part l at m) i k ≡ part l (at + i) k
+pub part-part : (l : List ℕ) (at m i k : ℕ) → i + k ≤ m → part (part l at m) i k ≡ part l (at + i) k
 part-part l at m i k h =
     ext-getD 0 (part (part l at m) i k) (part l (at + i) k)
     (simp (length-take, length-drop) (omega arith))

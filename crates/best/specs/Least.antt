@@ -1,6 +1,6 @@
 -- `bestOf` finds the least by (cost, r, j) among the rotations that pass the test, or nothing where none passes; and in the terms of rule S, none that
 -- passes is cheaper. Why: what is found so far costs no more than any rotation that passed, and less than each that passed before it. Assumes nothing.
-use mathlib.Core.Path.{_≡_, refl, sym, ap, _∙_}
+use mathlib.Core.Path.{_≡_, refl, ap}
 use mathlib.Core.Logic.{_⊎_, inl, inr, ⊎-elim, _≢_}
 use mathlib.Core.Bool.{Bool, not, _&&_, _||_}
 use Prim.Native.Nat.{ℕ, zero, suc, _+_, _-_, _^_, _≤_, _<_}
@@ -9,11 +9,11 @@ use lib.Dec.{T, T-not, not-T, ltb, lt→ltb}
 use lib.Arith.{le→nltb}
 use Rattle.words.specs.Cases.{lt-or-ge}
 use Rattle.rules.specs.Order.{Input}
-use Rattle.rules.specs.Seed.{Candidate, seedOf, cheaper}
+use Rattle.rules.specs.Seed.{seedOf, cheaper}
 use Rattle.rules.specs.Seed as Seed
 use Rattle.rules.proofs.Tests.{split, not-or, not-and-left, not-and-right, not-not}
 use Rattle.best.specs.declared.Best.{Best}
-use Rattle.best.specs.Best.{nothing, better, bestFrom, bestOf}
+use Rattle.best.specs.Best.{nothing, bestFrom, bestOf}
 use Rattle.best.specs.BestLaws.{better-less, better-not, from-none, from-pass, from-fail, of-none, of-more}
 
 -- (r, j) stands before (q, k)

@@ -7,4 +7,6 @@ pub mod Wraps
 pub mod WrapLaws
 pub mod Segments
 pub mod Layouts
+pub mod Filled
+pub mod Examples
 pub mod Walk

@@ -1,14 +1,12 @@
 -- Between wrap points costs never fall: no key goes back to the start of its ring there, so each key's place rises with the rotation, and the table
 -- never falls. So of a segment's free rotations the first is the best. Assumes nothing.
-use mathlib.Core.Path.{_≡_, refl, sym, ap, _∙_}
+use mathlib.Core.Path.{_≡_, sym, ap, _∙_}
 use mathlib.Core.Logic.{_≢_, ⊎-elim}
-use mathlib.Core.Bool.{Bool, not}
 use mathlib.Core.List.{List}
-use Prim.Native.Nat.{ℕ, zero, suc, _+_, _-_, _*_, _%_, _^_, _≤_, _<_}
+use Prim.Native.Nat.{ℕ, zero, suc, _+_, _-_, _%_, _^_, _≤_, _<_}
 use native.Mathlib.Omega.{arith}
 use native.Mathlib.Nat.{mod-lt, mod-eq-of-lt, mod-add-mod, mod-self, mul-le-mul-right}
 use native.Mathlib.Numerals.{add-one}
-use lib.Dec.{T}
 use lib.ListN.{length, getD}
 use Rattle.words.specs.Cases.{lt-or-ge}
 use Rattle.words.specs.Map.{slot}
@@ -17,9 +15,9 @@ use Rattle.words.specs.NextLaws.{First, next-is}
 use Rattle.rules.specs.Good.{Rising}
 use Rattle.rings.specs.declared.Ring.{Ring}
 use Rattle.rings.specs.Ring.{Shape}
-use Rattle.rings.specs.Keys.{placeAt, entryAt, costTo, costAt, Priced}
+use Rattle.rings.specs.Keys.{placeAt, entryAt, costTo, costAt}
 use Rattle.rings.specs.RingLaws.{n-pos}
-use Rattle.rings.specs.KeyLaws.{place-lt, place-turn, entry-lt, cost-all}
+use Rattle.rings.specs.KeyLaws.{place-turn, entry-lt}
 use Rattle.best.specs.declared.Best.{Best}
 use Rattle.best.specs.Best.{better, bestFrom}
 use Rattle.best.specs.BestLaws.{from-fails, from-join, from-one}

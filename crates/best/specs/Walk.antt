@@ -1,10 +1,10 @@
 -- The walk over the set bits of one free word, lowest first: what is left of the word are its bits from the lowest one left on, and the rotations
 -- below that bit are done. The test may ask for more than that a rotation is free. Assumes nothing.
-use mathlib.Core.Path.{_≡_, refl, sym, ap, _∙_}
+use mathlib.Core.Path.{_≡_, sym, ap, _∙_}
 use mathlib.Core.Logic.{_≢_, ⊎-elim}
 use mathlib.Core.Bool.{Bool, not}
 use mathlib.Core.List.{List}
-use Prim.Native.Nat.{ℕ, zero, suc, _+_, _-_, _*_, _^_, _≤_, _<_}
+use Prim.Native.Nat.{ℕ, suc, _+_, _-_, _*_, _^_, _≤_, _<_}
 use native.Mathlib.Omega.{arith}
 use lib.Bits.{bitAnd}
 use lib.Count.{trailingZeros, trailing-le, trailing-of-zero}

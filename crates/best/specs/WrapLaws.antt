@@ -8,7 +8,6 @@ use native.Mathlib.Omega.{arith}
 use native.Mathlib.Nat.{mod-eq-of-lt, mod-eq-sub-mod}
 use native.Mathlib.Numerals.{add-one}
 use lib.Bits.{bitOr}
-use lib.Dec.{eqb}
 use lib.ListN.{length, getD, set, take, drop, replicate, length-set, length-replicate, getD-replicate}
 use lib.Seq.{getD-set-same, getD-set-other, take-set-le, take-set-lt, drop-set-add, ext-getD}
 use borrow.Author.Tests.{eq-eqb, ne-eqb}

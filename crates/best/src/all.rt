@@ -1,10 +1,10 @@
 // The best free rotation, found by pricing every one that is free.
 ghost use mathlib.Core.Path.{_≡_};
-ghost use Prim.Native.Nat.{ℕ, _*_, _^_, _<_, _≤_};
+ghost use Prim.Native.Nat.{_*_, _<_};
 ghost use lib.ListN.{length};
 ghost use Rattle.rings.specs.Ring.{Shape};
 ghost use Rattle.rings.specs.Keys.{costAt};
-ghost use Rattle.best.specs.Best.{bestFrom, nothing};
+ghost use Rattle.best.specs.Best.{bestFrom};
 ghost use Rattle.best.specs.Prices.{Prices, isFree, bestFree, Ended, EndedAll};
 use crate::Best;
 use crate::price::better_of;

@@ -1,11 +1,11 @@
 // The best free rotation, found by pricing the first free one of each segment between wrap points: inside a segment costs never fall.
 ghost use mathlib.Core.Path.{_≡_};
-ghost use Prim.Native.Nat.{ℕ, _+_, _-_, _*_, _^_, _<_, _≤_};
+ghost use Prim.Native.Nat.{_+_, _-_, _*_, _≤_};
 ghost use lib.ListN.{length};
 ghost use Rattle.rings.specs.Ring.{Shape};
 ghost use Rattle.rings.specs.Keys.{costAt};
 ghost use Rattle.rings.specs.Parts.{part};
-ghost use Rattle.best.specs.Best.{bestFrom, nothing};
+ghost use Rattle.best.specs.Best.{bestFrom};
 ghost use Rattle.best.specs.Prices.{Prices, isFree, bestFree};
 ghost use Rattle.best.specs.Wraps.{Kept, Points};
 ghost use Rattle.best.specs.Segments.{Rises};

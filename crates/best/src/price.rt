@@ -1,7 +1,6 @@
 // What a rotation costs.
 ghost use mathlib.Core.Path.{_≡_};
-ghost use Prim.Native.Nat.{ℕ, _-_, _*_, _^_, _<_, _≤_};
-ghost use lib.ListN.{length};
+ghost use Prim.Native.Nat.{_-_, _^_, _<_};
 ghost use Rattle.rings.specs.Ring.{Shape};
 ghost use Rattle.rings.specs.Keys.{costAt};
 ghost use Rattle.best.specs.Best.{better};

@@ -1,8 +1,6 @@
 // Wrap points: the rotations at which a key of a layout is back at the start of its ring, as a bit set.
-ghost use mathlib.Core.Path.{_≡_};
-ghost use mathlib.Core.List.{List};
-ghost use Prim.Native.Nat.{ℕ, _+_, _*_, _<_, _≤_};
-ghost use lib.ListN.{length, getD, replicate};
+ghost use Prim.Native.Nat.{_+_, _*_, _≤_};
+ghost use lib.ListN.{length, replicate};
 ghost use Rattle.rings.specs.Ring.{Shape};
 ghost use Rattle.rings.specs.Parts.{part};
 ghost use Rattle.best.specs.Wraps.{Filled, withPoint, pointsOf};
