@@ -19,8 +19,7 @@ use Rattle.best.specs.Best.{nothing, bestFrom, bestOf}
 use Rattle.best.specs.Prices.{Prices, isFree, costIn, freeIn, bestFree, Ended, EndedAll}
 use Rattle.best.specs.PriceLaws.{cost-lt}
 use Rattle.best.specs.Least.{Found, best-found, best-none}
-use Rattle.best.specs.Wraps.{Kept}
-use Rattle.best.specs.WrapLaws.{kept-part}
+use Rattle.best.specs.Kept.{Kept, kept-part}
 
 -- ---- parts
 

@@ -3,6 +3,7 @@ pub mod BestLaws
 pub mod Least
 pub mod Prices
 pub mod PriceLaws
+pub mod Kept
 pub mod Wraps
 pub mod WrapLaws
 pub mod Segments

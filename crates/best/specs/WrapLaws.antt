@@ -8,8 +8,8 @@ use native.Mathlib.Omega.{arith}
 use native.Mathlib.Nat.{mod-eq-of-lt, mod-eq-sub-mod}
 use native.Mathlib.Numerals.{add-one}
 use lib.Bits.{bitOr}
-use lib.ListN.{length, getD, set, take, drop, replicate, length-set, length-replicate, getD-replicate}
-use lib.Seq.{getD-set-same, getD-set-other, take-set-le, take-set-lt, drop-set-add, ext-getD}
+use lib.ListN.{length, getD, set, take, drop, replicate, length-replicate, getD-replicate}
+use lib.Seq.{getD-set-same, getD-set-other, take-set-lt, drop-set-add, ext-getD}
 use borrow.Author.Tests.{eq-eqb, ne-eqb}
 use Rattle.words.specs.Cases.{lt-or-ge, same-or-not}
 use Rattle.words.specs.Map.{slot, marked}
@@ -18,27 +18,9 @@ use Rattle.rings.specs.declared.Ring.{Ring}
 use Rattle.rings.specs.Ring.{Shape, Word}
 use Rattle.rings.specs.Keys.{placeAt}
 use Rattle.rings.specs.KeyLaws.{place-lt, place-turn}
-use Rattle.rings.specs.Parts.{part, part-at, part-range, length-part, part-same, elem-same}
-use Rattle.best.specs.Wraps.{withPoint, pointsOf, Points, Kept, Filled}
-
--- ---- what is kept
-
-pub kept-self : (up : ℕ) (l : List ℕ) → Kept up l l
-kept-self up l = record { front = refl; len = refl }
-
-pub kept-set : (up : ℕ) (l : List ℕ) (i v : ℕ) → up ≤ i → Kept up l (set l i v)
-kept-set up l i v h = record { front = take-set-le up l i v h; len = length-set l i v }
-
-pub kept-on : {up : ℕ} {l l' l'' : List ℕ} → Kept up l l' → Kept up l' l'' → Kept up l l''
-kept-on a b = record { front = b .front ∙ a .front; len = b .len ∙ a .len }
-
--- a part below `up`
-pub kept-part : {up : ℕ} {l l' : List ℕ} (at size : ℕ) → Kept up l l' → at + size ≤ up → part l' at size ≡ part l at size
-kept-part {up} {l} {l'} at size k h = part-same l' l up at size h (k .len) (k .front)
-
--- a part `&after[at..at + size]` of the code
-pub kept-range : {up : ℕ} {l after : List ℕ} (at size : ℕ) → Kept up l after → at + size ≤ up → take (at + size - at) (drop at after) ≡ part l at size
-kept-range {up} {l} {after} at size k h = part-range after at size ∙ kept-part at size k h
+use Rattle.rings.specs.Parts.{part, part-at, part-range, length-part, elem-same}
+use Rattle.best.specs.Kept.{Kept, kept-self, kept-set, kept-on, kept-part, kept-range}
+use Rattle.best.specs.Wraps.{withPoint, pointsOf, Points, Filled}
 
 -- ---- one key's point
 

@@ -5,11 +5,12 @@ use mathlib.Core.Bool.{cond}
 use mathlib.Core.List.{List}
 use Prim.Native.Nat.{ℕ, zero, suc, _-_, _<_}
 use lib.Dec.{eqb}
-use lib.ListN.{length, getD, take, replicate}
+use lib.ListN.{length, getD, replicate}
 use Rattle.words.specs.Map.{slot, marked}
 use Rattle.rings.specs.declared.Ring.{Ring}
 use Rattle.rings.specs.Keys.{placeAt}
 use Rattle.rings.specs.Parts.{part}
+use Rattle.best.specs.Kept.{Kept}
 
 -- the set with key d's wrap point
 unfoldable pub withPoint : (g : Ring) (d : ℕ) (wraps : List ℕ) → List ℕ
@@ -24,12 +25,7 @@ pointsOf g keys count (suc i) = withPoint g (getD keys i 0) (pointsOf g keys cou
 unfoldable pub Points : (g : Ring) (keys wraps : List ℕ) → Type 0
 Points g keys wraps = (i p : ℕ) → i < length keys → 0 < p → p < g .n → placeAt g (getD keys i 0) p ≡ 0 → slot wraps p ≡ 1
 
--- what is below `up` is as it was
-pub record Kept (up : ℕ) (l after : List ℕ) : Type 0 where
-  pub front : take up after ≡ take up l
-  pub len : length after ≡ length l
-
--- and from `up` on there are these `count` words
+-- what is below `up` is as it was, and from there on there are these `count` words
 pub record Filled (up count : ℕ) (l words after : List ℕ) : Type 0 where
   pub kept : Kept up l after
   pub is : part after up count ≡ words

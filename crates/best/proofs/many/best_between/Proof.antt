@@ -1,7 +1,8 @@
 -- The keys and free words lie below the wrap points, so filling those leaves them. Assumes nothing.
 use native.Mathlib.Omega.{arith}
 use borrow.Author.Needs.{needs}
-use Rattle.best.specs.WrapLaws.{kept-range, free-room, wraps-room, points-here}
+use Rattle.best.specs.Kept.{kept-range}
+use Rattle.best.specs.WrapLaws.{free-room, wraps-room, points-here}
 use Rattle.best.proofs.many.best_between.Statement.{statement}
 use Rattle.best.proofs.many.best_between.Tie as tie
 

@@ -5,8 +5,7 @@ use Prim.Native.Nat.{_+_, _-_, _*_}
 use native.Mathlib.Omega.{arith}
 use borrow.Author.Needs.{needs}
 use Rattle.rings.specs.Parts.{part, length-part}
-use Rattle.best.specs.Wraps.{Kept}
-use Rattle.best.specs.WrapLaws.{kept-self, kept-on}
+use Rattle.best.specs.Kept.{Kept, kept-self, kept-on}
 use Rattle.best.specs.Layouts.{Trying, trying-none, trying-more, trying-end, row-le, prices-layout, layout-part}
 use Rattle.best.proofs.many.best_many.Statement.{statement}
 use Rattle.best.proofs.many.best_many.Tie as tie
