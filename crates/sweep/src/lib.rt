@@ -2,3 +2,4 @@
 pub mod clearing;
 pub mod counting;
 pub mod moving;
+pub mod turning;
