@@ -1,5 +1,5 @@
 -- Begins and weights as they are made, one entry after the other. Assumes nothing.
-use mathlib.Core.Path.{_≡_, refl, sym, ap, _∙_, subst}
+use mathlib.Core.Path.{_≡_, sym, ap, _∙_, subst}
 use mathlib.Core.List.{List}
 use mathlib.Core.Logic.{⊎-elim, _≢_}
 use Prim.Native.Nat.{ℕ, _+_, _*_, _-_, _≤_, _<_, _^_}

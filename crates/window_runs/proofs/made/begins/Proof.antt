@@ -2,8 +2,7 @@ use Rattle.window_runs.proofs.Grown.{Grown, none-yet, one-more, all-the
 use denote.Ref.{now}
 use borrow.Author.Needs.{needs}
 use native.Mathlib.Omega.{arith}
-use Prim.Native.Nat.{_-_, _≤_, _<_}
-use mathlib.Core.Path.{_≡_}
+use Prim.Native.Nat.{_-_}
 use Rattle.window_runs.proofs.made.begins.Statement.{statement}
 use Rattle.window_runs.proofs.made.begins.Tie as tie
 use Rattle.window_runs.proofs.made.begins.Reads as reads

@@ -3,10 +3,9 @@ use Rattle.window.specs.Key.{Within}
 use Rattle.integers.specs.Ints.{small-fits}
 use mir.Facts.{toZ-ofZ}
 use lib.ListN.{length, length-set}
-use denote.Ref.{now}
 use borrow.Author.Needs.{needs}
 use native.Mathlib.Omega.{arith}
-use Prim.Native.Nat.{_-_, _≤_, _<_}
+use Prim.Native.Nat.{_-_, _<_}
 use mathlib.Core.Path.{_≡_, refl, _∙_}
 use Rattle.window_runs.proofs.made.weights.Statement.{statement}
 use Rattle.window_runs.proofs.made.weights.Tie as tie

@@ -1,10 +1,9 @@
 use Rattle.window.proofs.WindowLaws.{not-empty}
-use Rattle.window.specs.Window.{state, Waiting, Filled}
-use denote.Ref.{now}
+use Rattle.window.specs.Window.{state, Waiting}
 use borrow.Author.Needs.{needs}
 use native.Mathlib.Omega.{arith}
-use Prim.Native.Nat.{_+_, _-_, _≤_, _<_}
-use mathlib.Core.Path.{_≡_, sym, _∙_}
+use Prim.Native.Nat.{_+_, _-_}
+use mathlib.Core.Path.{sym, _∙_}
 use Rattle.window_runs.proofs.turns.all.Statement.{statement}
 use Rattle.window_runs.proofs.turns.all.Tie as tie
 use Rattle.window_runs.proofs.turns.all.Reads as reads
