@@ -1,12 +1,11 @@
 -- The cyclic set has the buckets of a window of at most 256, so no two of them share a slot: one marked, one cleared, the next oldest.
 -- Assumes nothing.
-use mathlib.Core.Path.{_≡_, refl, sym, ap, _∙_, subst}
+use mathlib.Core.Path.{_≡_, sym, ap, _∙_}
 use mathlib.Core.List.{List, [], _∷_, _++_}
-use mathlib.Core.Logic.{_⊎_, inl, inr, ⊎-elim}
-use Prim.Native.Nat.{ℕ, _+_, _*_, _-_, _<_, _≤_, _%_}
+use mathlib.Core.Logic.{_⊎_, ⊎-elim}
+use Prim.Native.Nat.{ℕ, _+_, _-_, _<_, _≤_, _%_}
 use native.Mathlib.Omega.{arith}
 use lib.Dec.{T}
-use lib.ListN.{length}
 use Rattle.words.specs.Map.{slot, marked, cleared}
 use Rattle.words.specs.MapLaws.{length-marked, marked-same, marked-other, length-cleared, cleared-same, cleared-other}
 use Rattle.words.specs.NextLaws.{First}

@@ -1,31 +1,30 @@
 -- The bucket that comes from the queue or the heap with the greatest key has the greatest key of the window: the head of a queue has the greatest
 -- key of its size, the heap's greatest that of the sizes from 64 on. Assumes nothing.
-use mathlib.Core.Path.{_≡_, refl, sym, ap, ap₂, _∙_, subst}
-use mathlib.Core.Logic.{_⊎_, inl, inr, ⊎-elim}
-use mathlib.Core.Bool.{Bool, true, false}
-use mathlib.Core.List.{List, [], _∷_, map}
-use Prim.Native.Nat.{ℕ, zero, suc, _+_, _-_, _<_, _≤_, _^_}
+use mathlib.Core.Path.{_≡_, refl, sym, ap, _∙_, subst}
+use mathlib.Core.Logic.{_⊎_, ⊎-elim}
+use mathlib.Core.Bool.{true, false}
+use mathlib.Core.List.{List, [], _∷_}
+use Prim.Native.Nat.{ℕ, _+_, _-_, _<_, _≤_, _^_}
 use native.Mathlib.Omega.{arith}
 use lib.Dec.{T}
 use lib.IntN.{ℤ, pos, natAbs}
 use lib.Signed.{ltZ}
-use lib.ListN.{length, getD, take, drop}
+use lib.ListN.{length, getD, drop}
 use lib.Count.{trailingZeros}
 use Rattle.words.specs.Bit.{bit}
 use Rattle.words.specs.BitLaws.{bit-of-zero}
 use Rattle.words.specs.CountLaws.{tz-lt, tz-set}
 use Rattle.words.specs.Cases.{lt-or-ge, same-or-not}
-use Rattle.heap.specs.Keys.{copies}
 use Rattle.rules.specs.Lists.{elem, filter, remove}
 use Rattle.rules.specs.Order.{Input, sizeOf, weight}
-use Rattle.window.specs.Key.{keyOf, bucketKey, Within, Table}
-use Rattle.window.specs.Queues.{Queues, headOf, shifted}
+use Rattle.window.specs.Key.{bucketKey, Within, Table}
+use Rattle.window.specs.Queues.{Queues, shifted}
 use Rattle.window.specs.Window.{Asc, hasSize, isLarge, Queued, Heaped}
-use Rattle.window.specs.Changes.{Choice, Out, Popping, Poppable}
+use Rattle.window.specs.Changes.{Out, Popping, Poppable}
 use Rattle.window.proofs.Members.{filter-in, in-filter, elem-here, elem-long, first-in}
-use Rattle.window.proofs.KeyLaws.{key-chain, key-level, weight-bound}
+use Rattle.window.proofs.KeyLaws.{key-chain, weight-bound}
 use Rattle.window.proofs.AscLaws.{asc-in}
-use Rattle.window.proofs.QueueLaws.{has-size, of-size, shift-head, shift-there, shift-queued, leave-queued, head-first, set-filled, uncons}
+use Rattle.window.proofs.QueueLaws.{of-size, shift-head, shift-queued, leave-queued, head-first, set-filled, uncons}
 use Rattle.window.proofs.HeapLaws.{is-large, of-large, copies-found, pop-heaped, leave-heaped, key-held}
 
 -- b is in W, nothing of W has a greater key, and the queues and the heap have the others
@@ -64,9 +63,6 @@ module _ (i : Input) (table : List ℤ) (q : Queues) (large : List ℤ) (n o e :
   module _ (b : ℕ) (q′ : Queues) (large′ : List ℤ) (n′ : ℕ) (p : Popping table q large n o b q′ large′ n′) where
     -- from a queue
     module _ (l : p .size < 64) where
-      size : ℕ
-      size = p .size
-
       on : bit (q .nonempty) (p .size) ≡ 1
       on = p .choice .queue l .0 .member
 

@@ -1,22 +1,21 @@
 -- The heap has the keys of the buckets of 64 keys and more, as a multiset: one more, one taken out. Assumes nothing.
-use mathlib.Core.Path.{_≡_, refl, sym, ap, _∙_, subst}
+use mathlib.Core.Path.{_≡_, refl, sym, ap, _∙_}
 use mathlib.Core.Bool.{Bool, true, false, cond}
 use mathlib.Core.List.{List, [], _∷_, _++_, map}
 use mathlib.Core.Logic.{_⊎_, inl, inr, ⊎-elim}
 use Prim.Native.Nat.{ℕ, zero, suc, _+_, _-_, _<_, _≤_}
 use native.Mathlib.Omega.{arith}
 use borrow.Author.Tests.{le-leb, lt-leb, leb-true, eqb-true, eqb-false}
-use lib.Dec.{T, eqb, leb}
+use lib.Dec.{T, eqb}
 use lib.ListN.{length, take, length-append}
-use lib.IntN.{ℤ, pos}
-use lib.Signed.{ltZ}
-use Rattle.heap.specs.Keys.{one, copies, Greatest, one-same, one-is, copies-nil, copies-cons}
+use lib.IntN.{ℤ}
+use Rattle.heap.specs.Keys.{one, copies, one-same, one-is, copies-nil, copies-cons}
 use Rattle.heap.specs.Ordered.{Kept}
 use Rattle.rules.specs.Lists.{elem, filter, remove}
 use Rattle.rules.specs.Order.{Input, sizeOf}
 use Rattle.window.specs.Key.{bucketKey}
 use Rattle.window.specs.Window.{isLarge, Heaped}
-use Rattle.window.proofs.Members.{elem-here, elem-there, elem-cases, filter-in, in-filter, filter-snoc, filter-pass, filter-remove, filter-keeps}
+use Rattle.window.proofs.Members.{elem-here, elem-there, elem-cases, in-filter, filter-snoc, filter-pass, filter-remove, filter-keeps}
 
 pub is-large : (i : Input) (b : ℕ) → 64 ≤ sizeOf i b → isLarge i b ≡ true
 unfolding isLarge

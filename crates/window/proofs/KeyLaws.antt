@@ -1,23 +1,23 @@
 -- Keys have rule W's order: the tie's part of a key is below 1024, so it decides only where the priorities are equal. Keys of moderate weights fit
 -- an i64, and two buckets of one window have different keys. Assumes nothing.
-use mathlib.Core.Path.{_≡_, refl, sym, ap, _∙_, subst}
+use mathlib.Core.Path.{_≡_, refl, sym, ap}
 use mathlib.Core.Bool.{Bool, true, false, not, cond, _&&_, _||_}
 use mathlib.Core.List.{List}
-use mathlib.Core.Logic.{_⊎_, inl, inr, ⊎-elim}
+use mathlib.Core.Logic.{_⊎_, ⊎-elim}
 use Prim.Native.Nat.{ℕ, _+_, _*_, _-_, _<_, _≤_, _^_, _%_}
 use native.Mathlib.Omega.{arith}
 use native.Mathlib.Nat.{mul-le-mul-right, mul-le-mul-left}
-use borrow.Author.Tests.{ltb-true, ltb-false, leb-true, le-leb, lt-leb}
+use borrow.Author.Tests.{ltb-true, ltb-false, le-leb, lt-leb}
 use lib.Dec.{ltb, leb}
 use lib.ListN.{getD}
 use lib.IntN.{ℤ, pos, natAbs, _+ℤ_, _-ℤ_, _*ℤ_}
 use lib.Signed.{ltZ}
 use mir.Syntax.{w64}
 use mir.Val.{SFits}
-use Rattle.integers.specs.Ints.{up, dn, held, add-is, sub-is, mul-up, mul-dn, eq-by, lt-true, lt-false, lt-by, ge-by, abs-is, between, sfits-by, held-abs}
+use Rattle.integers.specs.Ints.{up, dn, held, add-is, sub-is, mul-up, mul-dn, lt-true, lt-false, lt-by, ge-by, abs-is, between, sfits-by, held-abs}
 use Rattle.words.specs.Cases.{same-or-not}
 use Rattle.rules.specs.Order.{Input, sizeOf, weight, weightEntry, priority, byLowBits, goesFirst}
-use Rattle.window.specs.Key.{keyOf, bucketKey, beyondOf, Within, Table}
+use Rattle.window.specs.Key.{keyOf, bucketKey, beyondOf, Within}
 
 -- a key in its parts
 pub key-is : (w : ℤ) (b : ℕ) → up (keyOf w b) + dn (w -ℤ pos (1024 * b)) * 1024 ≡ dn (keyOf w b) + up (w -ℤ pos (1024 * b)) * 1024 + (1023 - b % 1024)

@@ -2,40 +2,39 @@
 -- the window, keys have rule W's order, and no two buckets of a window have one key: so it is the bucket of turn k. Assumes nothing.
 use mathlib.Core.Path.{_≡_, refl, sym, ap, ap₂, _∙_, subst}
 use mathlib.Core.Logic.{_⊎_, inl, inr, ⊎-elim}
-use mathlib.Core.Bool.{Bool, true, false, not, cond, _&&_}
-use mathlib.Core.List.{List, [], _∷_, _++_, append-assoc, head-eq-of-cons-eq, tail-eq-of-cons-eq, List·Memᴰ}
-use Prim.Native.Nat.{ℕ, zero, suc, _+_, _-_, _*_, _%_, _^_, _<_, _≤_, min}
+use mathlib.Core.Bool.{Bool, true, false, not, _&&_}
+use mathlib.Core.List.{List, [], _∷_, _++_, append-assoc, head-eq-of-cons-eq, tail-eq-of-cons-eq}
+use Prim.Native.Nat.{ℕ, zero, suc, _+_, _-_, _%_, _^_, _<_, _≤_}
 use native.Mathlib.Omega.{arith}
 use native.Mathlib.Numerals.{add-one}
 use borrow.Author.Tests.{eq-eqb, ne-eqb, eqb-true, eqb-false, ltb-true, lt-ltb}
-use lib.Dec.{T, ltb, eqb}
+use lib.Dec.{T, eqb}
 use lib.IntN.{ℤ, pos, natAbs}
 use lib.Signed.{ltZ}
-use lib.ListN.{length, getD, take, drop, replicate, getD-replicate, length-replicate}
-use Rattle.words.specs.Bit.{bit}
+use lib.ListN.{length, getD, drop, replicate, getD-replicate, length-replicate}
 use Rattle.words.specs.BitLaws.{bit-of-zero}
-use Rattle.words.specs.Map.{slot, marked, cleared}
+use Rattle.words.specs.Map.{cleared}
 use Rattle.words.specs.MapLaws.{slot-replicate}
 use Rattle.words.specs.Cases.{lt-or-ge, same-or-not}
-use Rattle.heap.specs.Keys.{copies, one, copies-nil}
-use Rattle.heap.specs.Ordered.{Kept, none-kept}
-use Rattle.rules.specs.Lists.{elem, filter, remove, best}
+use Rattle.heap.specs.Keys.{one}
+use Rattle.heap.specs.Ordered.{none-kept}
+use Rattle.rules.specs.Lists.{elem, filter, remove}
 use Rattle.rules.specs.Order.{Input, sizeOf, weight, byLowBits, goesFirst, inWindow, nonempty, turn, turns, order}
 use Rattle.rules.specs.Good.{Sound}
-use Rattle.rules.proofs.Tests.{of-true, of-false, is-true, is-false, elem-mem, mem-elem}
+use Rattle.rules.proofs.Tests.{of-false, is-false, elem-mem, mem-elem}
 use Rattle.rules.proofs.Orders.{best-is}
 use Rattle.rules.proofs.Counting.{length-remove}
 use Rattle.rules.proofs.TurnLaws.{strict-order}
-use Rattle.window.specs.Key.{keyOf, bucketKey, beyondOf, Within, Table}
+use Rattle.window.specs.Key.{keyOf, bucketKey, beyondOf, Table}
 use Rattle.window.specs.Queues.{Queues, queuesOf, pushed}
 use Rattle.groups.specs.Groups.{sizeIn}
 use Rattle.window.specs.Cyclic.{FirstIn}
 use Rattle.window.specs.Skip.{Skipped}
 use Rattle.window.specs.Changes.{Enterable, Entered, Popping, Poppable}
-use Rattle.window.specs.Window.{State, stateAt, Ranged, Asc, hasSize, isLarge, Queued, Heaped, Marks, Holds, Window, Headed, Windowed, Full, Turned}
-use Rattle.window.proofs.Members.{elem-here, elem-there, elem-cases, append-cases, append-left, filter-in, in-filter, removed-in, remove-append, elem-long}
+use Rattle.window.specs.Window.{State, stateAt, Ranged, Asc, isLarge, Queued, Heaped, Marks, Window, Headed, Windowed, Full, Turned}
+use Rattle.window.proofs.Members.{elem-here, elem-there, elem-cases, append-cases, append-left, filter-in, in-filter, removed-in, remove-append}
 use Rattle.window.proofs.KeyLaws.{first-is, key-same, beyond-weight, entry-weight, weight-bound}
-use Rattle.window.proofs.AscLaws.{asc-room, asc-in, asc-to, asc-from, asc-snoc, asc-remove, asc-filter}
+use Rattle.window.proofs.AscLaws.{asc-room, asc-in, asc-to, asc-snoc, asc-remove, asc-filter}
 use Rattle.window.proofs.QueueLaws.{push-room, push-queued, pass-queued}
 use Rattle.window.proofs.HeapLaws.{put-heaped, pass-heaped}
 use Rattle.window.proofs.CyclicLaws.{marks-push, marks-pop, next-oldest, next-heads}

@@ -3,7 +3,7 @@ use mathlib.Core.Path.{_≡_}
 use mathlib.Core.Bool.{Bool}
 use mathlib.Core.Logic.{_⊎_}
 use mathlib.Core.List.{List, [], _∷_, _++_, map}
-use Prim.Native.Nat.{ℕ, _+_, _-_, _<_, _≤_, _%_, min}
+use Prim.Native.Nat.{ℕ, _+_, _<_, _≤_, _%_, min}
 use lib.Dec.{T, eqb, leb}
 use lib.IntN.{ℤ, pos}
 use lib.ListN.{length, getD, take, drop}

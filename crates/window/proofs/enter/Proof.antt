@@ -1,16 +1,15 @@
-use Rattle.window.proofs.KeyLaws.{key-fits}
 use Rattle.window.specs.Key.{keyOf, beyondOf}
 use Rattle.heap.specs.Keys.{one, copies}
 use Rattle.integers.specs.Ints.{small-fits}
 use mir.Facts.{toZ-ofZ}
-use mir.Val.{SFits, toZ, ofZ}
+use mir.Val.{toZ, ofZ}
 use mir.Syntax.{w64}
 use lib.ListN.{getD, take}
-use lib.IntN.{ℤ, pos, natAbs}
+use lib.IntN.{ℤ, pos}
 use denote.Ref.{now}
 use native.Mathlib.Omega.{arith}
-use Prim.Native.Nat.{ℕ, _+_, _-_, _≤_, _<_, _^_}
-use mathlib.Core.Path.{_≡_, refl, sym, ap, _∙_, subst}
+use Prim.Native.Nat.{_+_, _-_}
+use mathlib.Core.Path.{_≡_, refl, ap, _∙_}
 use borrow.Author.Needs.{needs}
 use Rattle.window.proofs.enter.Statement.{statement}
 use Rattle.window.proofs.enter.Tie as tie

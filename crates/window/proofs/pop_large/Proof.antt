@@ -2,9 +2,8 @@ use Rattle.window.proofs.Chosen.{place-near}
 use mir.Syntax.{w64}
 use mir.Val.{toZ, ofZ}
 use mir.Facts.{toZ-ofZ}
-use native.Mathlib.Omega.{arith}
 use Prim.Native.Nat.{ℕ, _+_, _-_, _%_}
-use mathlib.Core.Path.{_≡_, sym, ap, _∙_}
+use mathlib.Core.Path.{_≡_, ap, _∙_}
 use borrow.Author.Needs.{needs}
 use Rattle.window.proofs.pop_large.Statement.{statement}
 use Rattle.window.proofs.pop_large.Tie as tie

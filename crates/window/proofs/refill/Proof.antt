@@ -1,12 +1,10 @@
 use Rattle.window.proofs.WindowLaws.{skip, stays-headed, is-empty, not-empty}
-use Rattle.window.specs.Window.{state, Headed}
-use Rattle.rules.specs.Order.{Input}
+use Rattle.window.specs.Window.{Headed}
 use denote.Ref.{now}
-use native.Mathlib.Omega.{arith}
-use Prim.Native.Nat.{ℕ, _+_, _≤_, _<_, min}
+use Prim.Native.Nat.{ℕ, _+_, min}
 use mathlib.Core.Logic.{_⊎_}
-use mathlib.Core.List.{List, []}
-use mathlib.Core.Path.{_≡_, refl, sym, ap, _∙_, subst}
+use mathlib.Core.List.{[]}
+use mathlib.Core.Path.{_≡_, sym, ap, _∙_, subst}
 use borrow.Author.Needs.{needs}
 use Rattle.window.proofs.refill.Statement.{statement}
 use Rattle.window.proofs.refill.Tie as tie

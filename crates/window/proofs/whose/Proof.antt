@@ -6,7 +6,7 @@ use lib.ListN.{getD}
 use lib.IntN.{pos}
 use denote.Ref.{now}
 use native.Mathlib.Omega.{arith}
-use mathlib.Core.Path.{_≡_, sym, ap, _∙_}
+use mathlib.Core.Path.{_≡_}
 use borrow.Author.Needs.{needs}
 use Rattle.window.proofs.whose.Statement.{statement}
 use Rattle.window.proofs.whose.Tie as tie
