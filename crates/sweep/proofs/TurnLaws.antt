@@ -50,9 +50,10 @@ module _ {i : Input} {g : Geometry} {hashes begins table : List ℕ} {z : ℕ} (
   -- the part of the hashes that has its keys
   pub level-groups : (b : ℕ) → b < i .settings .buckets → Groups.Grouped begins b × (Groups.beginOf begins (b + 1) ≤ length hashes)
   level-groups b h =
-      let s = l .sound .grouped in
-      (subst (λ (bs : List ℕ). Groups.Grouped bs b) (sym (l .begun)) (record { placed = omega (arith, s .long); rises = s .rises b h }),
-      subst (λ (bs : List ℕ). Groups.beginOf bs (b + 1) ≤ length hashes) (sym (l .begun)) (subst (λ (hs : List ℕ). getD (i .begins) (b + 1) 0 ≤ length hs) (sym (l .hashed)) (begins-le i s (b + 1) (omega arith))))
+      let s = l .sound .grouped in (
+        subst (λ (bs : List ℕ). Groups.Grouped bs b) (sym (l .begun)) (record { placed = omega (arith, s .long); rises = s .rises b h }),
+        subst (λ (bs : List ℕ). Groups.beginOf bs (b + 1) ≤ length hashes) (sym (l .begun)) (subst (λ (hs : List ℕ). getD (i .begins) (b + 1) 0 ≤ length hs) (sym (l .hashed)) (begins-le i s (b + 1) (omega arith))),
+      )
 
   pub level-keys : {keys : List ℕ} (b : ℕ) → keys ≡ take (Groups.sizeIn begins b) (drop (Groups.beginOf begins b) hashes) → keys ≡ keysOf i b
   unfolding keysOf sizeOf

@@ -297,6 +297,7 @@ pub fn take(
         → Ranged i (now (begins .entry)) (now (table .entry)) hi
         → Full i lo hi k (state (now (queues .entry)) (now (heads .entry)) (now (lengths .entry)) (now (keys .entry)) (now (set .entry)) (now (large .entry)) view)
         → Turned i lo hi k (r .bucket) (state (now (queues .entry)) (now (heads .exit)) (now (lengths .exit)) (now (keys .exit)) (now (set .exit)) (now (large .exit)) (r .view))) ⌝ }
+    ensures { λ r. ⌜ (view .oldest ≤ r .bucket) × (r .bucket < view .oldest + 256) ⌝ }
 {
     let o = view.oldest;
     let e = view.next;

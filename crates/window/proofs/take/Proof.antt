@@ -57,20 +57,28 @@ first-in-requires c κs =
 -- src/lib.rt:318:9
 returns : tie.Need-returns
 returns c =
-    λ i lo k g f.
     let s = c .before .before .before .before .before .before .before .before .before .before .before .before in
     let v = s .args .view in
-    pop-oldest i (now (s .args .begins)) (now (s .args .table)) (s .args .hi) g lo k (queuesOf (now (s .args .queues)) (now (s .args .heads)) (now (s .args .lengths)) (now (s .args .keys)) (v .nonempty))
-    (now (s .args .set)) (now (s .args .large)) (v .large) (v .oldest) (v .next) f _ _ _ _ (c .before .before .before .before .before .before .pop .ensures) _ (c .first-in .result) (c .before .before .before .clear-bit .ensures) (c .before .before .if1 .taken) (c .first-in .ensures)
+    let d = s .pre .0 in
+    let near =
+    pop-range (d .i) (now (s .args .begins)) (now (s .args .table)) (s .args .hi) (d .ranged) (d .lo) (d .k) (queuesOf (now (s .args .queues)) (now (s .args .heads)) (now (s .args .lengths)) (now (s .args .keys)) (v .nonempty)) (now (s .args .set)) (now (s .args .large)) (v .large) (v .oldest) (v .next) (d .full) _ _ _ _ (c .before .before .before .before .before .before .pop .ensures) in (
+      λ i lo k g f. pop-oldest i (now (s .args .begins)) (now (s .args .table)) (s .args .hi) g lo k (queuesOf (now (s .args .queues)) (now (s .args .heads)) (now (s .args .lengths)) (now (s .args .keys)) (v .nonempty))
+          (now (s .args .set)) (now (s .args .large)) (v .large) (v .oldest) (v .next) f _ _ _ _ (c .before .before .before .before .before .before .pop .ensures) _ (c .first-in .result) (c .before .before .before .clear-bit .ensures) (c .before .before .if1 .taken) (c .first-in .ensures),
+      (near .0, omega (arith, near .1, d .full .window .holds .narrow)),
+    )
 
 -- src/lib.rt:281:1
 returns-2 : tie.Need-returns-2
 returns-2 c =
-    λ i lo k g f.
     let s = c .before .before .before .before .before .before .before .before .before .before in
     let v = s .args .view in
-    pop-other i (now (s .args .begins)) (now (s .args .table)) (s .args .hi) g lo k (queuesOf (now (s .args .queues)) (now (s .args .heads)) (now (s .args .lengths)) (now (s .args .keys)) (v .nonempty))
-    (now (s .args .set)) (now (s .args .large)) (v .large) (v .oldest) (v .next) f _ _ _ _ (c .before .before .before .before .pop .ensures) _ (c .before .clear-bit .ensures) (c .if1 .left)
+    let d = s .pre .0 in
+    let near =
+    pop-range (d .i) (now (s .args .begins)) (now (s .args .table)) (s .args .hi) (d .ranged) (d .lo) (d .k) (queuesOf (now (s .args .queues)) (now (s .args .heads)) (now (s .args .lengths)) (now (s .args .keys)) (v .nonempty)) (now (s .args .set)) (now (s .args .large)) (v .large) (v .oldest) (v .next) (d .full) _ _ _ _ (c .before .before .before .before .pop .ensures) in (
+      λ i lo k g f. pop-other i (now (s .args .begins)) (now (s .args .table)) (s .args .hi) g lo k (queuesOf (now (s .args .queues)) (now (s .args .heads)) (now (s .args .lengths)) (now (s .args .keys)) (v .nonempty))
+          (now (s .args .set)) (now (s .args .large)) (v .large) (v .oldest) (v .next) f _ _ _ _ (c .before .before .before .before .pop .ensures) _ (c .before .clear-bit .ensures) (c .if1 .left),
+      (near .0, omega (arith, near .1, d .full .window .holds .narrow)),
+    )
 
 pub take-spec : {M : Type 1} → statement M
 take-spec =
