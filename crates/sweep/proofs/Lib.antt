@@ -1,2 +1,3 @@
 pub mod CountLaws
 pub mod TurnLaws
+pub mod StepLaws

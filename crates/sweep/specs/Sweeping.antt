@@ -20,10 +20,15 @@ use Rattle.geometry.specs.Shape.{Made}
 use Rattle.rings.specs.declared.Ring.{Ring}
 use Rattle.rings.specs.Columns.{Caches}
 use Rattle.rings.specs.Level.{levelRing}
+use Rattle.window.specs.declared.View.{View}
 use Rattle.window.specs.Window.{State, Ranged, Windowed}
 use Rattle.sweep.specs.declared.turning.Ended.{Ended}
 use Rattle.sweep.specs.declared.turning.Ended.the-variants.{All, At}
 use Rattle.sweep.specs.Stub.{Marks}
+
+-- the window before the first turn
+abbrev pub viewAt : (lo : ℕ) → View
+viewAt lo = record { oldest = lo; next = lo; nonempty = 0; large = 0 }
 
 -- the turns of the range, and the first k of them
 abbrev pub orderIn : Input → (lo hi : ℕ) → List ℕ
@@ -81,10 +86,14 @@ pub record Ending (i : Input) (bump : Bool) (lo hi : ℕ) (r : Ended) (seeds bit
   pub answer : r ≡ endOf bump i lo hi
   pub swept : r ≡ All → (seeds ≡ finalSeeds i (orderIn i lo hi)) × (bitmap ≡ finalBitmap i (orderIn i lo hi))
 
--- what the loop asks: there is such an input
-pub record Begun (g : Geometry) (bump : Bool) (hashes begins table : List ℕ) (weights : List ℤ) (lo hi z : ℕ) (s : State) (seeds bitmap work : List ℕ) : Type 0 where
-  pub i : Input
+-- where the turns start
+pub record Starting (i : Input) (g : Geometry) (bump : Bool) (hashes begins table : List ℕ) (weights : List ℤ) (lo hi z : ℕ) (s : State) (seeds bitmap work : List ℕ) : Type 0 where
   pub level : Level i g hashes begins table z
   pub range : hi ≤ i .settings .buckets
   pub ranged : Ranged i begins weights hi
   pub sweeping : Sweeping i bump lo hi 0 s 0 z seeds bitmap work
+
+-- what they ask: there is such an input
+pub record Begun (g : Geometry) (bump : Bool) (hashes begins table : List ℕ) (weights : List ℤ) (lo hi z : ℕ) (s : State) (seeds bitmap work : List ℕ) : Type 0 where
+  pub i : Input
+  pub starting : Starting i g bump hashes begins table weights lo hi z s seeds bitmap work

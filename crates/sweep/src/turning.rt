@@ -6,7 +6,7 @@ ghost use lib.ListN.{length};
 ghost use Rattle.rules.specs.Order.{Input};
 ghost use Rattle.rings.specs.Level.{levelRing};
 ghost use Rattle.window.specs.Window.{state};
-ghost use Rattle.sweep.specs.Sweeping.{Level, Buffers, Ending, Begun, Sweeping};
+ghost use Rattle.sweep.specs.Sweeping.{viewAt, Level, Buffers, Starting, Ending, Begun};
 ghost use Rattle.sweep.specs.Serving.{Serves, Turn, Served};
 ghost use Rattle.sweep.specs.Stub.{Searching, Search, Found};
 use super::moving::advance;
@@ -14,6 +14,9 @@ use geometry::shape::Geometry;
 use groups::keys_of;
 use rings::Ring;
 use window::View;
+use window::is_empty;
+use window::refill;
+use window::take;
 
 // How the turns end: all are taken, or bumping is forbidden and this bucket gets 0.
 pub enum Ended {
@@ -69,4 +72,95 @@ fn serve(
     let v = search(g, ring, table, keys, b, z, first_slot, bitmap, work);
     seeds[b] = v as u16;
     v
+}
+
+// The turns of the buckets from lo up to hi. What the window holds is lent by the caller, blank; all of it has a fixed size.
+pub fn take_turns(
+    g: Geometry,
+    ring: Ring,
+    bump: bool,
+    hashes: &[u64],
+    begins: &[u32],
+    table: &[u32],
+    weights: &[i64; 64],
+    lo: usize,
+    hi: usize,
+    z: usize,
+    queues: &mut [[u8; 256]; 64],
+    heads: &mut [u8; 64],
+    lengths: &mut [u16; 64],
+    keys: &mut [i64; 64],
+    set: &mut [u64; 16],
+    large: &mut [i64; 256],
+    seeds: &mut [u16],
+    bitmap: &mut [u64],
+    work: &mut [u64],
+) -> Ended
+    requires { ⌜ ring ≡ levelRing (g .settings) ⌝ }
+    requires { ⌜ Begun g bump (now hashes) (now begins) (now table) (now weights) lo hi z
+        (state (now queues) (now heads) (now lengths) (now keys) (now set) (now large) (viewAt lo)) (now seeds) (now bitmap) (now work) ⌝ }
+    ensures { λ r. ⌜ ((i : Input)
+        → Starting i g bump (now (hashes .entry)) (now (begins .entry)) (now (table .entry)) (now (weights .entry)) lo hi z
+        (state (now (queues .entry)) (now (heads .entry)) (now (lengths .entry)) (now (keys .entry)) (now (set .entry)) (now (large .entry)) (viewAt lo)) (now (seeds .entry)) (now (bitmap .entry)) (now (work .entry))
+        → Ending i bump lo hi r (now (seeds .exit)) (now (bitmap .exit))) ⌝ }
+{
+    let mut turn: usize = 0;
+    let mut first_slot: usize = 0;
+    let mut view = View {
+        oldest: lo,
+        next: lo,
+        nonempty: 0,
+        large: 0,
+    };
+    loop {
+        let full = refill(
+            queues,
+            heads,
+            lengths,
+            keys,
+            weights,
+            set,
+            large,
+            begins,
+            hi,
+            view,
+        );
+        if is_empty(full) {
+            return Ended::All;
+        }
+        let t = take(
+            queues,
+            heads,
+            lengths,
+            keys,
+            weights,
+            set,
+            large,
+            begins,
+            hi,
+            full,
+        );
+        first_slot = advance(g, ring, work, bitmap, first_slot, full.oldest);
+        let b = t.bucket;
+        let v = serve(
+            g,
+            ring,
+            hashes,
+            begins,
+            table,
+            b,
+            z,
+            first_slot,
+            seeds,
+            bitmap,
+            work,
+        );
+        turn += 1;
+        if v == 0 {
+            if !bump {
+                return Ended::At(b as u64);
+            }
+        }
+        view = t.view;
+    }
 }
