@@ -1,0 +1,4 @@
+pub mod Slots
+pub mod SlotLaws
+pub mod Distinct
+pub mod DistinctLaws

@@ -1,0 +1,2 @@
+// Rule S: the seed of one bucket.
+pub mod distinct;
