@@ -1,0 +1,2 @@
+// Rule S's view of rule G: a level's ring, and a bucket's hashes as ring keys.
+pub mod level;
