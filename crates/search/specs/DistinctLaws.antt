@@ -4,13 +4,13 @@ use mathlib.Core.Path.{_≡_, refl, sym, ap, _∙_}
 use mathlib.Core.Logic.{_≢_, ⊎-elim}
 use mathlib.Core.Bool.{Bool, true, false, not}
 use mathlib.Core.List.{List}
-use Prim.Native.Nat.{ℕ, _+_, _-_, _*_, _≤_, _<_}
+use Prim.Native.Nat.{ℕ, _+_, _-_, _*_, _^_, _≤_, _<_}
 use native.Mathlib.Omega.{arith}
 use native.Mathlib.Numerals.{add-one}
 use lib.Bits.{bitAnd}
 use lib.Count.{trailingZeros}
 use lib.Dec.{T}
-use lib.ListN.{length}
+use lib.ListN.{length, getD}
 use Rattle.words.specs.Cases.{lt-or-ge}
 use Rattle.words.specs.Map.{slot}
 use Rattle.rules.specs.Lists.{distinct}
@@ -18,13 +18,13 @@ use Rattle.rules.proofs.Tests.{split, is-true, is-false, and-both, not-and-left
 use Rattle.rings.specs.declared.Ring.{Ring}
 use Rattle.rings.specs.Keys.{costAt}
 use Rattle.rings.specs.Place.{Fitted}
-use Rattle.rings.specs.Parts.{part, length-part}
+use Rattle.rings.specs.Parts.{part, part-at, length-part}
 use Rattle.best.specs.declared.Best.{Best}
 use Rattle.best.specs.Best.{nothing, better, bestFrom, bestOf}
 use Rattle.best.specs.BestLaws.{better-taken, better-not, of-none, of-more}
 use Rattle.best.specs.Prices.{isFree, Ended}
 use Rattle.best.specs.PriceLaws.{free-one, free-zero}
-use Rattle.best.specs.Walk.{OnlyFree, Walk, walk-free, walk-pass, walk-fail}
+use Rattle.best.specs.Walk.{OnlyFree, Walk, walk-start, walk-free, walk-pass, walk-fail}
 use Rattle.search.specs.Slots.{slotsAt, Unused}
 use Rattle.search.specs.SlotLaws.{fresh-distinct, met-twice}
 use Rattle.search.specs.Distinct.{isDistinct, betterDistinct, rowAt, bestDistinct, KeyRow, FreeRow, AllRows}
@@ -85,6 +85,15 @@ module _ (g : Ring) (start : ℕ) (keys free : List ℕ) where
       let s : best' ≡ best = e ∙ step-no g table start keys r (64 * w + trailingZeros 64 left) best t in
       rw s (walk-fail a n (not-and-right (isFree free (64 * w + trailingZeros 64 left)) (distinct (slotsAt g start keys (64 * w + trailingZeros 64 left))) t)))
       (split (distinct (slotsAt g start keys (64 * w + trailingZeros 64 left))))
+
+-- before the first bit
+pub walk-begin : (g : Ring) (table work : List ℕ) (a size start f count w r : ℕ) (before : Best) → w < count → getD work (f + w) 0 < 2 ^ 64
+    → Walk (costAt g table (part work a size)) (isDistinct g start (part work a size) (part work f count)) (part work f count) r w before (getD work (f + w) 0) before
+walk-begin g table work a size start f count w r before lt h =
+    let e : getD (part work f count) w 0 ≡ getD work (f + w) 0 = part-at work f count w lt in
+    let k : Walk (costAt g table (part work a size)) (isDistinct g start (part work a size) (part work f count)) (part work f count) r w before (getD (part work f count) w 0) before =
+    walk-start (costAt g table (part work a size)) (isDistinct g start (part work a size) (part work f count)) (part work f count) r w before (distinct-only g start (part work a size) (part work f count)) (rw e h) in
+    rw e at k
 
 -- a free rotation is one of the n
 pub free-turn : {n : ℕ} {free : List ℕ} (j : ℕ) → Ended n free → slot free j ≡ 1 → j < n

@@ -7,10 +7,10 @@ use lib.Count.{trailingZeros}
 use borrow.Author.Needs.{needs}
 use Rattle.words.specs.CountLaws.{clear-less}
 use Rattle.rings.specs.Keys.{costAt}
-use Rattle.rings.specs.Parts.{part, part-at, length-part}
-use Rattle.best.specs.Walk.{Walk, walk-start, walk-lt, walk-free, walk-end}
+use Rattle.rings.specs.Parts.{part, length-part}
+use Rattle.best.specs.Walk.{Walk, walk-lt, walk-free, walk-end}
 use Rattle.search.specs.Distinct.{isDistinct}
-use Rattle.search.specs.DistinctLaws.{distinct-only, walk-step, free-turn}
+use Rattle.search.specs.DistinctLaws.{walk-begin, walk-step, free-turn}
 use Rattle.search.proofs.distinct.distinct_word.Statement.{statement}
 use Rattle.search.proofs.distinct.distinct_word.Tie as tie
 
@@ -30,9 +30,9 @@ slice-read-left : tie.Need-slice-read-left Inv-loop μ-loop
 slice-read-left c = search needs
 
 loop-holds : tie.Need-loop-holds Inv-loop μ-loop
-loop-holds c = let s = c .before .before .before in
-    let e = part-at (s .args .work .now) (s .args .f) (s .args .count) (s .args .w) (s .pre .1 .1) in
-    (refl, rw e at (walk-start (costAt (s .args .g) (s .args .table .now) (part (s .args .work .now) (s .args .a) (s .args .size))) _ _ (s .args .r) (s .args .w) (s .args .before) (distinct-only (s .args .g) (s .args .start) (part (s .args .work .now) (s .args .a) (s .args .size)) (part (s .args .work .now) (s .args .f) (s .args .count))) (rw e (c .slice-known2 .given (s .args .f + s .args .w) .fits))))
+loop-holds c =
+    let s = c .before .before .before in
+    (refl, walk-begin (s .args .g) (s .args .table .now) (s .args .work .now) (s .args .a) (s .args .size) (s .args .start) (s .args .f) (s .args .count) (s .args .w) (s .args .r) (s .args .before) (s .pre .1 .1) (c .slice-known2 .given (s .args .f + s .args .w) .fits))
 
 mul-j : tie.Need-mul-j Inv-loop μ-loop
 mul-j c = let s = c .before .before .before .before .before in
