@@ -14,6 +14,7 @@ use Rattle.best.specs.declared.Best.{Best}
 use Rattle.best.specs.Best.{better, bestOf}
 use Rattle.best.specs.Prices.{Prices, isFree, Ended}
 use Rattle.search.specs.Slots.{slotsAt, Unused, Reached}
+use Rattle.search.specs.Rows.{rowAt}
 
 -- rotation j is free, and its slots are pairwise different
 unfoldable pub isDistinct : (g : Ring) (start : ℕ) (keys free : List ℕ) (j : ℕ) → Bool
@@ -22,10 +23,6 @@ isDistinct g start keys free j = isFree free j && distinct (slotsAt g start keys
 -- rotation j of layout r where its slots are pairwise different and it costs less than the best so far
 unfoldable pub betterDistinct : (g : Ring) (table : List ℕ) (start : ℕ) (keys : List ℕ) (r j : ℕ) → Best → Best
 betterDistinct g table start keys r j b = cond (distinct (slotsAt g start keys j)) (better (costAt g table keys j) r j b) b
-
--- layout r's keys and free words in the work words
-abbrev pub rowAt : (work : List ℕ) (at size r : ℕ) → List ℕ
-rowAt work at size r = part work (at + r * size) size
 
 -- the best of all layouts
 unfoldable pub bestDistinct : (g : Ring) (table work : List ℕ) (at size start to count layouts : ℕ) → Best

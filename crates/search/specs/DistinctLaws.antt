@@ -27,7 +27,8 @@ use Rattle.best.specs.PriceLaws.{free-one, free-zero}
 use Rattle.best.specs.Walk.{OnlyFree, Walk, walk-start, walk-free, walk-pass, walk-fail}
 use Rattle.search.specs.Slots.{slotsAt, Unused}
 use Rattle.search.specs.SlotLaws.{fresh-distinct, met-twice}
-use Rattle.search.specs.Distinct.{isDistinct, betterDistinct, rowAt, bestDistinct, KeyRow, FreeRow, AllRows}
+use Rattle.search.specs.Rows.{rowAt}
+use Rattle.search.specs.Distinct.{isDistinct, betterDistinct, bestDistinct, KeyRow, FreeRow, AllRows}
 
 -- ---- one rotation
 

@@ -1,2 +1,3 @@
 // Rule S: the seed of one bucket.
 pub mod distinct;
+pub mod look;
