@@ -4,3 +4,8 @@ pub mod Rows
 pub mod LookLaws
 pub mod Distinct
 pub mod DistinctLaws
+pub mod Settle
+pub mod SettleLaws
+pub mod Candidates
+pub mod Searching
+pub mod HeldLaws
