@@ -4,7 +4,7 @@
 use mathlib.Core.Path.{_≡_, refl, sym, ap, _∙_, subst}
 use mathlib.Core.Logic.{⊎-elim, _≢_}
 use mathlib.Core.List.{List}
-use Prim.Native.Nat.{ℕ, suc, _+_, _-_, _*_, _/_, _%_, _^_, _≤_, _<_}
+use Prim.Native.Nat.{ℕ, _+_, _-_, _*_, _/_, _%_, _^_, _≤_, _<_}
 use native.Mathlib.Omega.{arith}
 use native.Mathlib.Nat.{mul-le-mul-right, not-suc-le-zero, div-add-mod', mod-eq-of-lt}
 use lib.Arith.{digits-lt, digits-mod}
@@ -14,20 +14,16 @@ use lib.Bits.{bitAnd}
 use Rattle.words.specs.ShiftLaws.{and-low}
 use Rattle.words.specs.Cases.{same-or-not}
 use Rattle.rules.specs.declared.Settings.{Settings}
-use Rattle.rules.specs.Geometry.{layouts, sliceOf, offsetOf, layoutOffset, stride, scale, sliceLen}
+use Rattle.rules.specs.Geometry.{layouts, sliceOf, offsetOf, layoutOffset, stride}
 use Rattle.rules.specs.Ring.{ringOffset, columnOf}
 use Rattle.rings.specs.Parts.{front-same, front-set}
 use Rattle.geometry.specs.declared.shape.Geometry.{Geometry}
 use Rattle.geometry.specs.Shape.{Made}
 use Rattle.geometry.proofs.Sizes.{sized}
 use Rattle.geometry.proofs.Places.{shift-lt}
-use Rattle.ring_keys.specs.RingKey.{ringKey, KeysFilled}
+use Rattle.ring_keys.specs.RingKey.{ringKey, packed, LayoutsFilled, KeysFilled}
 
 -- ---- one key
-
--- the ring key of place o in a slice that begins at entry `base`
-unfoldable pub packed : (t base o : ℕ) → ℕ
-packed t base o = (base + o % 2 ^ t) * 2 ^ 32 + o / 2 ^ t * 2 ^ t
 
 pub key-packed : (s : Settings) (start r h : ℕ) → start ≤ sliceOf s h → packed (stride s) (sliceOf s h + 95 - start) (ringOffset s r h) ≡ ringKey s start r h
 unfolding packed ringKey columnOf
@@ -36,13 +32,6 @@ key-packed s start r h le =
     rw e refl
 
 -- ---- one hash, all layouts
-
--- the keys of the first r layouts stand `size` words apart from word k on; all other words are as before
-pub record LayoutsFilled (s : Settings) (h start k size r : ℕ) (old now : List ℕ) : Type 0 where
-  pub front : take k now ≡ take k old
-  pub len : length now ≡ length old
-  pub key : (q : ℕ) → q < r → getD now (k + q * size) 0 ≡ ringKey s start q h
-  pub other : (p : ℕ) → ((q : ℕ) → q < r → p ≢ k + q * size) → getD now p 0 ≡ getD old p 0
 
 -- layout r is next, with its shift and its word
 pub record Layering (s : Settings) (h start at size r shift k : ℕ) (old now : List ℕ) : Type 0 where
@@ -84,8 +73,8 @@ module _ {s : Settings} {h start at size r shift k : ℕ} {old now : List ℕ} (
       len = length-set now k v ∙ a .done .len;
       key = λ q l. ⊎-elim (here q) (there q l) (same-or-not q r);
       other = λ p n.
-        getD-set-other now k p v 0 (subst (λ (x : ℕ). p ≢ x) (sym (a .next)) (n r (omega arith)))
-        ∙ a .done .other p (λ q l. n q (omega arith));
+          getD-set-other now k p v 0 (subst (λ (x : ℕ). p ≢ x) (sym (a .next)) (n r (omega arith)))
+          ∙ a .done .other p (λ q l. n q (omega arith));
     };
   }
     where

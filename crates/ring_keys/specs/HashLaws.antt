@@ -48,10 +48,7 @@ module _ (s : Settings) (short : s .«log2_slice_len» ≤ 16) (start r h : ℕ)
 -- ---- a hash of bucket b
 
 last-row : (n w : ℕ) → 0 < n → (n - 1) * w + w ≡ n * w
-last-row n w h = sym (suc-mul (n - 1) w) ∙ ap (λ (k : ℕ). k * w) (sub-add-cancel-one n h)
-  where
-    sub-add-cancel-one : (n : ℕ) → 0 < n → suc (n - 1) ≡ n
-    sub-add-cancel-one n h = omega arith
+last-row n w h = let e : suc (n - 1) ≡ n = omega arith in sym (suc-mul (n - 1) w) ∙ ap (λ (k : ℕ). k * w) e
 
 module _ (s : Settings) (b start h : ℕ) (at : Home s b start h) where
   some : 0 < s .buckets

@@ -1,8 +1,8 @@
 -- `layout_place` masks twice in place of one remainder by l, a power of two.
-use mathlib.Core.Path.{_≡_, sym, subst}
+use mathlib.Core.Path.{_≡_}
 use Prim.Native.Nat.{ℕ, _+_, _-_, _*_, _/_, _%_, _^_, _<_}
 use native.Mathlib.Omega.{arith}
-use native.Mathlib.Nat.{mod-lt, mod-eq-of-lt}
+use native.Mathlib.Nat.{mod-eq-of-lt}
 use lib.Bits.{bitAnd, and-le-r}
 use borrow.Author.Needs.{needs}
 use Rattle.rules.specs.Geometry.{logLen}

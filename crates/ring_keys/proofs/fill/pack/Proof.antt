@@ -6,7 +6,8 @@ use native.Mathlib.Nat.{mod-le}
 use lib.Bits.{bitAnd}
 use borrow.Author.Needs.{needs}
 use Rattle.words.specs.ShiftLaws.{one-shl-pos}
-use Rattle.ring_keys.specs.FillLaws.{packed, column-code, pack-code}
+use Rattle.ring_keys.specs.RingKey.{packed}
+use Rattle.ring_keys.specs.FillLaws.{column-code, pack-code}
 use Rattle.ring_keys.proofs.fill.pack.Statement.{statement}
 use Rattle.ring_keys.proofs.fill.pack.Tie as tie
 
@@ -30,7 +31,7 @@ add-result : tie.Need-add-result
 add-result c = omega (arith, column-is c, mod-le (c .args .o) (2 ^ c .args .t))
 
 sub-result : tie.Need-sub-result
-sub-result c = packs c .0
+sub-result c = omega (arith, packs c .0)
 
 add-result-2 : tie.Need-add-result-2
 add-result-2 c = search needs
