@@ -9,3 +9,5 @@ pub mod SettleLaws
 pub mod Candidates
 pub mod Searching
 pub mod HeldLaws
+pub mod Chosen
+pub mod PreparedLaws

@@ -81,3 +81,30 @@ pub record Prepared (i : Input) (marked : List ℕ) (first b : ℕ) (bitmap work
   pub ended : (r : ℕ) → r < G.layouts (i .settings) → Ended (G.ringLen (i .settings)) (rowAt work to count r)
   pub above : levelRing (i .settings) .words ≤ at
   pub room : (at + G.layouts (i .settings) * length (keysOf i b) ≤ length work) × (to + G.layouts (i .settings) * count ≤ length work)
+
+-- `search` promises it for every input, list and first slot that its arguments are those of
+abbrev pub Found : (g : Geometry) (ring : Ring) (table keys : List ℕ) (b z : ℕ) (bitmap work : List ℕ) (seed : ℕ) (bitmap' work' : List ℕ) → Type 0
+Found g ring table keys b z bitmap work seed bitmap' work' =
+    (i : Input) (marked : List ℕ) (first : ℕ) → Ready i marked first g ring table keys b z bitmap work → Searched i marked first b work seed bitmap' work'
+
+-- the arguments of the pass over all free rotations: the keys' words end before `mid`, and from there to `to` is room to sort the hashes
+pub record Retry (i : Input) (marked : List ℕ) (first b : ℕ) (ring : Ring) (layouts : ℕ) (table keys : List ℕ) (start at mid to count : ℕ) (bitmap work : List ℕ) : Type 0 where
+  pub prepared : Prepared i marked first b bitmap work at to count
+  pub level : ring ≡ levelRing (i .settings)
+  pub all : layouts ≡ G.layouts (i .settings)
+  pub prices : table ≡ i .table
+  pub hashes : keys ≡ keysOf i b
+  pub begin : start ≡ G.first (i .settings) b
+  pub below : at + layouts * length keys ≤ mid
+  pub room : mid + 2 * length keys ≤ to
+
+pub record Retrying (ring : Ring) (layouts : ℕ) (table keys : List ℕ) (start at mid to count : ℕ) (bitmap work : List ℕ) : Type 0 where
+  pub i : Input
+  pub marked : List ℕ
+  pub first : ℕ
+  pub b : ℕ
+  pub retry : Retry i marked first b ring layouts table keys start at mid to count bitmap work
+
+abbrev pub Retried : (ring : Ring) (layouts : ℕ) (table keys : List ℕ) (start at mid to count : ℕ) (bitmap work : List ℕ) (seed : ℕ) (bitmap' work' : List ℕ) → Type 0
+Retried ring layouts table keys start at mid to count bitmap work seed bitmap' work' =
+    (i : Input) (marked : List ℕ) (first b : ℕ) → Retry i marked first b ring layouts table keys start at mid to count bitmap work → Searched i marked first b work seed bitmap' work'
