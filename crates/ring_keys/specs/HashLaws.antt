@@ -48,19 +48,13 @@ module _ (s : Settings) (short : s .«log2_slice_len» ≤ 16) (start r h : ℕ)
 -- ---- a hash of bucket b
 
 last-row : (n w : ℕ) → 0 < n → (n - 1) * w + w ≡ n * w
-last-row n w h = sym (suc-mul (n - 1) w) ∙ ap (λ (k : ℕ). k * w) (sub-add-cancel-one n h)
-  where
-    sub-add-cancel-one : (n : ℕ) → 0 < n → suc (n - 1) ≡ n
-    sub-add-cancel-one n h = omega arith
+last-row n w h = let e : suc (n - 1) ≡ n = omega arith in sym (suc-mul (n - 1) w) ∙ ap (λ (k : ℕ). k * w) e
 
-module _ (s : Settings) (good : Good s) (b start h : ℕ) (at : Home s b start h) where
+module _ (s : Settings) (b start h : ℕ) (at : Home s b start h) where
   some : 0 < s .buckets
   some = omega (arith, at .inside)
 
-  few : s .buckets ≤ 2 ^ 64
-  few = omega (arith, good .buckets-high)
-
-  -- its slice is not before the bucket's first slot, nor far behind it
+  -- its slice is not before the bucket's first slot
   pub start-le : start ≤ sliceOf s h
   start-le = rw (at .begins) (first-le s some b h (at .home))
 
@@ -73,11 +67,15 @@ module _ (s : Settings) (good : Good s) (b start h : ℕ) (at : Home s b start h
       more : b * 2 ^ 64 + 2 ^ 64 ≤ 2 ^ 64 * s .buckets
       more = omega (arith, at .inside)
 
+module _ (s : Settings) (good : Good s) (b start h : ℕ) (at : Home s b start h) where
+  few : s .buckets ≤ 2 ^ 64
+  few = omega (arith, good .buckets-high)
+
   -- what `rings` asks of a ring key
   pub key-ok : (r : ℕ) → Key start (ringKey s start r h)
   key-ok r = record {
-    ahead = rw (high-half s (good .slice-high) start r h) (omega (arith, start-le));
-    low = below (ringKey s start r h) (omega (arith, high-half s (good .slice-high) start r h, slice-lt s h (good .m-low) home-small, slices-le s, good .m-high, column-lt s r h, width));
+    ahead = rw (high-half s (good .slice-high) start r h) (omega (arith, start-le s b start h at));
+    low = below (ringKey s start r h) (omega (arith, high-half s (good .slice-high) start r h, slice-lt s h (good .m-low) (home-small s b start h at), slices-le s, good .m-high, column-lt s r h, width));
   }
     where
       width : 2 ^ stride s ≤ 2 ^ 16
@@ -92,18 +90,18 @@ module _ (s : Settings) (good : Good s) (b start h : ℕ) (at : Home s b start h
     unfolding entryAt levelRing
     entry-is j =
         rw (high-half s (good .slice-high) start r h, place-is s (good .slice-high) start r h j, position-ring s r j h lt, ← at .begins)
-        (omega (arith, start-le))
+        (omega (arith, start-le s b start h at))
 
     -- the slot of h under seed j·L + r
     pub slot-is : (j : ℕ) → slotAt (levelRing s) start (ringKey s start r h) j ≡ position s (j * layouts s + r) h
     unfolding slotAt entryAt levelRing
     slot-is j =
         rw (high-half s (good .slice-high) start r h, place-is s (good .slice-high) start r h j, position-ring s r j h lt)
-        (omega (arith, start-le))
+        (omega (arith, start-le s b start h at))
 
     -- it is one of the m slots
     pub slot-lt : (j : ℕ) → slotAt (levelRing s) start (ringKey s start r h) j < s .m
-    slot-lt j = rw (slot-is j) (position-lt s (j * layouts s + r) h (good .m-low) home-small)
+    slot-lt j = rw (slot-is j) (position-lt s (j * layouts s + r) h (good .m-low) (home-small s b start h at))
 
     -- it is in the stretch of the ring, where this begins at most a column before the first slot of a bucket o, and b is one of the 256 from o on
     pub slot-within : (base o j : ℕ) → base ≤ first s o → first s o < base + 64 * 2 ^ stride s → o ≤ b → b < o + 256
@@ -115,4 +113,4 @@ module _ (s : Settings) (good : Good s) (b start h : ℕ) (at : Home s b start h
   unfolding entries levelRing
   priced-is r =
       rw (high-half s (good .slice-high) start r h)
-      (omega (arith, slice-near s some b h (at .home) (at .inside) few, at .begins, start-le, column-lt s r h, ring-len s, last-row (ringLen s) (2 ^ stride s) (ring-pos s)))
+      (omega (arith, slice-near s (some s b start h at) b h (at .home) (at .inside) few, at .begins, start-le s b start h at, column-lt s r h, ring-len s, last-row (ringLen s) (2 ^ stride s) (ring-pos s)))

@@ -3,3 +3,4 @@ pub mod HashLaws
 pub mod LayoutLaws
 pub mod CostLaws
 pub mod FilledLaws
+pub mod FillLaws

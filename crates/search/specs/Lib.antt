@@ -1,0 +1,13 @@
+pub mod Slots
+pub mod SlotLaws
+pub mod Rows
+pub mod LookLaws
+pub mod Distinct
+pub mod DistinctLaws
+pub mod Settle
+pub mod SettleLaws
+pub mod Candidates
+pub mod Searching
+pub mod HeldLaws
+pub mod Chosen
+pub mod PreparedLaws
