@@ -12,7 +12,6 @@ use lib.Dec.{T, eqb}
 use lib.IntN.{ℤ}
 use lib.ListN.{length, getD, take, drop, set, length-drop}
 use lib.Seq.{take-all, split-at, drop-drop}
-use Rattle.words.specs.Map.{Words, slot}
 use Rattle.rules.specs.Lists.{elem, count, indicator, filter, keep, between}
 use Rattle.rules.specs.Geometry as G
 use Rattle.rules.specs.Numbers.{bitmapWords}
@@ -37,7 +36,7 @@ use Rattle.window.proofs.Later.{later-low}
 use Rattle.window.proofs.Members.{elem-here}
 use Rattle.sweep.specs.declared.turning.Ended.{Ended}
 use Rattle.sweep.specs.declared.turning.Ended.the-variants.{All, At}
-use Rattle.sweep.specs.Stub.{Marks, Near}
+use Rattle.search.specs.Searching.{Marks, Near}
 use Rattle.sweep.specs.Sweeping.{orderIn, taken, Level, Buffers, Behind, NoZero, Sweeping, endBy, endOf, Ending}
 use Rattle.sweep.specs.Serving.{Turn, Served}
 use Rattle.sweep.proofs.TurnLaws.{taken-next}
@@ -101,13 +100,13 @@ turn-of o range t from to near = record {
   bucket = t .bucket;
   high = omega (arith, t .high);
   range = range;
-  near = record { o = o; from = from; to = to; low = near .0; high = near .1 };
+  near = record { o = o; from = from; to = to; oldest = near .0; close = near .1 };
 }
 
 -- the buffers with the ring moved on
 pub buffers-moved : {i : Input} {lo hi k first first' z : ℕ} {seeds bitmap work work' : List ℕ} → Buffers i lo hi k first z seeds bitmap work
-    → Caches (levelRing (i .settings)) work' bitmap first' → length work' ≡ length work → Words work' → Buffers i lo hi k first' z seeds bitmap work'
-buffers-moved f c l w = record { seeds-are = f .seeds-are; marks = f .marks; caches = c; room = omega (arith, f .room, l); words = w }
+    → Caches (levelRing (i .settings)) work' bitmap first' → length work' ≡ length work → Buffers i lo hi k first' z seeds bitmap work'
+buffers-moved f c l = record { seeds-are = f .seeds-are; marks = f .marks; caches = c; room = omega (arith, f .room, l) }
 
 -- ---- the end of the order
 module _ {i : Input} {bump : Bool} {lo hi k : ℕ} {s : State} {first z : ℕ} {seeds bitmap work : List ℕ} (g : Sweeping i bump lo hi k s first z seeds bitmap work)
@@ -125,7 +124,7 @@ module _ {i : Input} {bump : Bool} {lo hi k : ℕ} {s : State} {first z : ℕ} {
     answer = whole bump refl;
     swept = λ e. (
       g .buffers .seeds-are ∙ ap (finalSeeds i) all-taken,
-      bitmap-is (finalMarks i (taken i lo hi k)) (i .settings .m) bitmap (g .buffers .marks .long) (g .buffers .marks .words) (λ x h. g .buffers .marks .slots x)
+      bitmap-is (finalMarks i (taken i lo hi k)) (i .settings .m) bitmap (g .buffers .marks .len) (g .buffers .marks .words) (λ x h. g .buffers .marks .bits x)
           ∙ ap (λ (l : List ℕ). bitmapOf (i .settings .m) (finalMarks i l)) all-taken,
     );
   }

@@ -6,7 +6,6 @@ use native.Mathlib.Omega.{arith}
 use lib.Dec.{T, eqb}
 use lib.ListN.{length, getD, take, drop, set}
 use lib.Seq.{take-suc, split-at}
-use Rattle.words.specs.Map.{Words}
 use Rattle.rules.specs.Lists.{elem, count, indicator}
 use Rattle.rules.specs.Geometry as G
 use Rattle.rules.specs.Good.{Sound}
@@ -24,7 +23,8 @@ use Rattle.groups.specs.Groups as Groups
 use Rattle.geometry.specs.declared.shape.Geometry.{Geometry}
 use Rattle.rings.specs.Columns.{Caches}
 use Rattle.rings.specs.Level.{levelRing}
-use Rattle.sweep.specs.Stub.{Marks, Near, Search, Searching, Found}
+use Rattle.rings.specs.declared.Ring.{Ring}
+use Rattle.search.specs.Searching.{Marks, Near, Held, Ready, Searched}
 use Rattle.sweep.specs.Sweeping.{orderIn, taken, Level, Buffers}
 use Rattle.sweep.specs.Serving.{Turn, Serves, Served}
 
@@ -60,25 +60,20 @@ module _ {i : Input} {g : Geometry} {hashes begins table : List ℕ} {z : ℕ} (
   level-keys b e = e ∙ ap₂ (λ (bs hs : List ℕ). take (Groups.sizeIn bs b) (drop (Groups.beginOf bs b) hs)) (l .begun) (l .hashed)
 
   module _ {lo hi k b first : ℕ} {seeds bitmap work : List ℕ} (f : Buffers i lo hi k first z seeds bitmap work) (t : Turn i lo hi k b first) where
-    pub asked : {keys : List ℕ} → keys ≡ take (Groups.sizeIn begins b) (drop (Groups.beginOf begins b) hashes)
-        → Search i (finalMarks i (taken i lo hi k)) g table keys b z first bitmap work
-    asked e =
+    pub asked : {ring : Ring} {keys : List ℕ} → ring ≡ levelRing (g .settings) → keys ≡ take (Groups.sizeIn begins b) (drop (Groups.beginOf begins b) hashes)
+        → Ready i (finalMarks i (taken i lo hi k)) first g ring table keys b z bitmap work
+    asked r e =
         let h = level-keys b e in
         record {
-          sound = l .sound;
-          hashes = l .words;
+          held = record { sound = l .sound; inside = t .high; near = t .near; marks = f .marks; caches = f .caches };
           made = l .made;
           settings = l .settings;
-          priced = l .priced;
-          has = h;
-          low = t .high;
+          level = r ∙ ap levelRing (l .settings);
+          prices = l .priced;
+          hashes = h;
           few = omega (arith, ap length h, keys-length i (l .sound .grouped) b (t .high), size-le-largest i b (t .high), l .largest);
           most = l .most;
-          marks = f .marks;
-          caches = f .caches;
-          near = t .near;
           room = f .room;
-          words = f .words;
         }
 
     -- the store of its seed
@@ -86,24 +81,23 @@ module _ {i : Input} {g : Geometry} {hashes begins table : List ℕ} {z : ℕ} (
     seed-room = omega (arith, t .high, ap length (f .seeds-are), seeds-length i (taken i lo hi k))
 
     -- ---- and what the answer makes of the buffers
-    pub answered : {r : ℕ} {bitmap' work' : List ℕ} → Found i (finalMarks i (taken i lo hi k)) b first r bitmap' work' → length work' ≡ length work
+    pub answered : {r : ℕ} {bitmap' work' : List ℕ} → Searched i (finalMarks i (taken i lo hi k)) first b work r bitmap' work'
         → Served i lo hi k b first z r (set seeds b r) bitmap' work'
-    answered {r} {bitmap'} {work'} a long =
+    answered {r} {bitmap'} {work'} a =
         let pre = taken i lo hi k in
         let next = taken-next t in
         record {
-          seed = a .seed;
+          seed = a .is;
           buffers = record {
             seeds-are =
-                ap₂ (λ (xs : List ℕ) (v : ℕ). set xs b v) (f .seeds-are) (a .seed)
+                ap₂ (λ (xs : List ℕ) (v : ℕ). set xs b v) (f .seeds-are) (a .is)
                 ∙ sym (seeds-turn i pre b (t .high) (not-taken t))
                 ∙ ap (finalSeeds i) (sym next);
             marks =
                 subst (Marks (i .settings .m) bitmap')
-                (ap (λ (v : ℕ). takes i b v ++ finalMarks i pre) (a .seed) ∙ sym (marks-turn i pre b) ∙ ap (finalMarks i) (sym next))
+                (ap (λ (v : ℕ). takes i b v ++ finalMarks i pre) (a .is) ∙ sym (marks-turn i pre b) ∙ ap (finalMarks i) (sym next))
                 (a .marks);
             caches = a .caches;
-            room = omega (arith, f .room, long);
-            words = a .words;
+            room = omega (arith, f .room, a .len);
           };
         }

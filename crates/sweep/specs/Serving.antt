@@ -7,7 +7,7 @@ use Rattle.rules.specs.Order.{Input}
 use Rattle.rules.specs.Seed.{seedFor}
 use Rattle.rules.specs.Sweep.{finalMarks}
 use Rattle.geometry.specs.declared.shape.Geometry.{Geometry}
-use Rattle.sweep.specs.Stub.{Near}
+use Rattle.search.specs.Searching.{Near}
 use Rattle.sweep.specs.Sweeping.{Level, Buffers, orderIn, taken}
 
 -- b is the bucket of turn k, and the ring reaches it
@@ -16,14 +16,15 @@ pub record Turn (i : Input) (lo hi k b first : ℕ) : Type 0 where
   pub bucket : b ≡ getD (orderIn i lo hi) k 0
   pub high : b < i .settings .buckets
   pub range : hi ≤ i .settings .buckets
-  pub near : Near i b first
+  pub near : Near (i .settings) first b
 
 -- what serving b asks: there is such an input
-pub record Serves (g : Geometry) (hashes begins table : List ℕ) (b z first : ℕ) (seeds bitmap work : List ℕ) : Type 0 where
+pub record Serves (g : Geometry) (hashes begins table : List ℕ) (b z : ℕ) (seeds bitmap work : List ℕ) : Type 0 where
   pub i : Input
   pub lo : ℕ
   pub hi : ℕ
   pub k : ℕ
+  pub first : ℕ
   pub level : Level i g hashes begins table z
   pub buffers : Buffers i lo hi k first z seeds bitmap work
   pub turn : Turn i lo hi k b first

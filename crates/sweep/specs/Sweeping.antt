@@ -7,7 +7,6 @@ use Prim.Native.Nat.{ℕ, _+_, _*_, _^_, _≤_, _<_}
 use lib.Dec.{T}
 use lib.IntN.{ℤ}
 use lib.ListN.{length, take, drop}
-use Rattle.words.specs.Map.{Words}
 use Rattle.rules.specs.Lists.{elem}
 use Rattle.rules.specs.Geometry as G
 use Rattle.rules.specs.Good.{Sound}
@@ -24,7 +23,7 @@ use Rattle.window.specs.declared.View.{View}
 use Rattle.window.specs.Window.{State, Ranged, Windowed}
 use Rattle.sweep.specs.declared.turning.Ended.{Ended}
 use Rattle.sweep.specs.declared.turning.Ended.the-variants.{All, At}
-use Rattle.sweep.specs.Stub.{Marks}
+use Rattle.search.specs.Searching.{Marks}
 
 -- the window before the first turn
 abbrev pub viewAt : (lo : ℕ) → View
@@ -40,7 +39,6 @@ taken i lo hi k = take k (orderIn i lo hi)
 -- what is lent for reading is the input's, whose checks have passed
 pub record Level (i : Input) (g : Geometry) (hashes begins table : List ℕ) (z : ℕ) : Type 0 where
   pub sound : Sound i
-  pub words : Words (i .hashes)
   pub made : Made g
   pub settings : g .settings ≡ i .settings
   pub hashed : hashes ≡ i .hashes
@@ -55,7 +53,6 @@ pub record Buffers (i : Input) (lo hi k first z : ℕ) (seeds bitmap work : List
   pub marks : Marks (i .settings .m) bitmap (finalMarks i (taken i lo hi k))
   pub caches : Caches (levelRing (i .settings)) work bitmap first
   pub room : G.workWords (i .settings) z ≤ length work
-  pub words : Words work
 
 -- the ring begins before the first slot of every bucket that is left
 abbrev pub Behind : Input → (lo hi k first : ℕ) → Type 0

@@ -8,7 +8,7 @@ ghost use Rattle.rings.specs.Level.{levelRing};
 ghost use Rattle.window.specs.Window.{state};
 ghost use Rattle.sweep.specs.Sweeping.{viewAt, Level, Buffers, Starting, Ending, Begun};
 ghost use Rattle.sweep.specs.Serving.{Serves, Turn, Served};
-ghost use Rattle.sweep.specs.Stub.{Searching, Search, Found};
+ghost use Rattle.search.specs.Searching.{Searching, Found};
 use super::moving::advance;
 use geometry::shape::Geometry;
 use groups::keys_of;
@@ -32,16 +32,12 @@ fn search(
     keys: &[u64],
     b: usize,
     z: usize,
-    first_slot: usize,
     bitmap: &mut [u64],
     work: &mut [u64],
 ) -> usize
-    requires { ⌜ ring ≡ levelRing (g .settings) ⌝ }
-    requires { ⌜ Searching g (now table) (now keys) b z «first_slot» (now bitmap) (now work) ⌝ }
+    requires { ⌜ Searching g ring (now table) (now keys) b z (now bitmap) (now work) ⌝ }
     ensures { λ r. ⌜ r < 65536 ⌝ }
-    ensures { λ r. ⌜ ((i : Input) (M : List ℕ)
-        → Search i M g (now (table .entry)) (now (keys .entry)) b z «first_slot» (now (bitmap .entry)) (now (work .entry))
-        → Found i M b «first_slot» r (now (bitmap .exit)) (now (work .exit))) ⌝ }
+    ensures { λ r. ⌜ Found g ring (now (table .entry)) (now (keys .entry)) b z (now (bitmap .entry)) (now (work .entry)) r (now (bitmap .exit)) (now (work .exit)) ⌝ }
 {
     0
 }
@@ -55,21 +51,20 @@ fn serve(
     table: &[u32],
     b: usize,
     z: usize,
-    first_slot: usize,
     seeds: &mut [u16],
     bitmap: &mut [u64],
     work: &mut [u64],
 ) -> usize
     requires { ⌜ ring ≡ levelRing (g .settings) ⌝ }
-    requires { ⌜ Serves g (now hashes) (now begins) (now table) b z «first_slot» (now seeds) (now bitmap) (now work) ⌝ }
-    ensures { λ r. ⌜ ((i : Input) (lo hi k : ℕ)
+    requires { ⌜ Serves g (now hashes) (now begins) (now table) b z (now seeds) (now bitmap) (now work) ⌝ }
+    ensures { λ r. ⌜ ((i : Input) (lo hi k first : ℕ)
         → Level i g (now (hashes .entry)) (now (begins .entry)) (now (table .entry)) z
-        → Buffers i lo hi k «first_slot» z (now (seeds .entry)) (now (bitmap .entry)) (now (work .entry))
-        → Turn i lo hi k b «first_slot»
-        → Served i lo hi k b «first_slot» z r (now (seeds .exit)) (now (bitmap .exit)) (now (work .exit))) ⌝ }
+        → Buffers i lo hi k first z (now (seeds .entry)) (now (bitmap .entry)) (now (work .entry))
+        → Turn i lo hi k b first
+        → Served i lo hi k b first z r (now (seeds .exit)) (now (bitmap .exit)) (now (work .exit))) ⌝ }
 {
     let keys = keys_of(hashes, begins, b);
-    let v = search(g, ring, table, keys, b, z, first_slot, bitmap, work);
+    let v = search(g, ring, table, keys, b, z, bitmap, work);
     seeds[b] = v as u16;
     v
 }
@@ -142,19 +137,7 @@ pub fn take_turns(
         );
         first_slot = advance(g, ring, work, bitmap, first_slot, full.oldest);
         let b = t.bucket;
-        let v = serve(
-            g,
-            ring,
-            hashes,
-            begins,
-            table,
-            b,
-            z,
-            first_slot,
-            seeds,
-            bitmap,
-            work,
-        );
+        let v = serve(g, ring, hashes, begins, table, b, z, seeds, bitmap, work);
         turn += 1;
         if v == 0 {
             if !bump {

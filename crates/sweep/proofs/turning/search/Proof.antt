@@ -3,7 +3,7 @@ use Rattle.sweep.proofs.turning.search.Tie as tie
 use Rattle.sweep.proofs.turning.search.Reads as reads
 use Rattle.sweep.proofs.turning.search.Lts as lts
 
--- src/turning.rt:25:1
+-- src/turning.rt:28:1
 returns : tie.Need-returns
 returns c = ?
 
