@@ -1,3 +1,4 @@
 pub mod CountLaws
 pub mod TurnLaws
 pub mod StepLaws
+pub mod StartLaws

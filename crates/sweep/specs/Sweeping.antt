@@ -6,11 +6,11 @@ use mathlib.Core.List.{List, []}
 use Prim.Native.Nat.{ℕ, _+_, _*_, _^_, _≤_, _<_}
 use lib.Dec.{T}
 use lib.IntN.{ℤ}
-use lib.ListN.{length, take, drop}
+use lib.ListN.{length, take, drop, replicate}
 use Rattle.rules.specs.Lists.{elem}
 use Rattle.rules.specs.Geometry as G
 use Rattle.rules.specs.Good.{Sound}
-use Rattle.rules.specs.Numbers.{largest}
+use Rattle.rules.specs.Numbers.{bitmapWords, largest}
 use Rattle.rules.specs.Order.{Input, byLowBits, order}
 use Rattle.rules.specs.Seed.{seedFor}
 use Rattle.rules.specs.Sweep.{finalSeeds, finalMarks, finalBitmap, failsAt}
@@ -94,3 +94,13 @@ pub record Starting (i : Input) (g : Geometry) (bump : Bool) (hashes begins tabl
 pub record Begun (g : Geometry) (bump : Bool) (hashes begins table : List ℕ) (weights : List ℤ) (lo hi z : ℕ) (s : State) (seeds bitmap work : List ℕ) : Type 0 where
   pub i : Input
   pub starting : Starting i g bump hashes begins table weights lo hi z s seeds bitmap work
+
+-- what a whole sweep asks of an input whose checks have passed: blank buffers
+pub record Blank (i : Input) (g : Geometry) (z : ℕ) (seeds bitmap work : List ℕ) : Type 0 where
+  pub sound : Sound i
+  pub made : Made g
+  pub settings : g .settings ≡ i .settings
+  pub largest-is : z ≡ largest i
+  pub no-seeds : seeds ≡ replicate (i .settings .buckets) 0
+  pub no-slots : bitmap ≡ replicate (bitmapWords (i .settings .m)) 0
+  pub no-work : work ≡ replicate (G.workWords (i .settings) z) 0

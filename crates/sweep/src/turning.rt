@@ -3,19 +3,21 @@ ghost use mathlib.Core.Path.{_≡_};
 ghost use mathlib.Core.List.{List};
 ghost use Prim.Native.Nat.{ℕ, _+_, _≤_, _<_};
 ghost use lib.ListN.{length};
-ghost use Rattle.rules.specs.Order.{Input};
+ghost use Rattle.rules.specs.Order.{Input, inputOf};
 ghost use Rattle.rings.specs.Level.{levelRing};
 ghost use Rattle.window.specs.Window.{state};
-ghost use Rattle.sweep.specs.Sweeping.{viewAt, Level, Buffers, Starting, Ending, Begun};
+ghost use Rattle.sweep.specs.Sweeping.{viewAt, Level, Buffers, Starting, Ending, Begun, Blank};
 ghost use Rattle.sweep.specs.Serving.{Serves, Turn, Served};
 ghost use Rattle.search.specs.Searching.{Searching, Found};
 use super::moving::advance;
 use geometry::shape::Geometry;
 use groups::keys_of;
+use ring_keys::level::ring_of;
 use rings::Ring;
 use window::View;
 use window::is_empty;
 use window::refill;
+use window::rule::weight_table;
 use window::take;
 
 // How the turns end: all are taken, or bumping is forbidden and this bucket gets 0.
@@ -146,4 +148,53 @@ pub fn take_turns(
         }
         view = t.view;
     }
+}
+
+// The turns of all buckets, with a blank window.
+pub fn run(
+    g: Geometry,
+    weights: [i64; 7],
+    bump: bool,
+    hashes: &[u64],
+    begins: &[u32],
+    table: &[u32],
+    z: usize,
+    seeds: &mut [u16],
+    bitmap: &mut [u64],
+    work: &mut [u64],
+) -> Ended
+    requires { ⌜ Blank (inputOf (g .settings) weights (now hashes) (now begins) (now table)) g z (now seeds) (now bitmap) (now work) ⌝ }
+    ensures { λ r. ⌜ Ending (inputOf (g .settings) weights (now (hashes .entry)) (now (begins .entry)) (now (table .entry))) bump 0 (g .settings .buckets) r (now (seeds .exit)) (now (bitmap .exit)) ⌝ }
+{
+    let s = g.settings;
+    let hi = s.buckets as usize;
+    let ring = ring_of(g);
+    let by_size = weight_table(weights);
+    let mut queues = [[0u8; 256]; 64];
+    let mut heads = [0u8; 64];
+    let mut lengths = [0u16; 64];
+    let mut keys = [0i64; 64];
+    let mut set = [0u64; 16];
+    let mut large = [0i64; 256];
+    take_turns(
+        g,
+        ring,
+        bump,
+        hashes,
+        begins,
+        table,
+        &by_size,
+        0,
+        hi,
+        z,
+        &mut queues,
+        &mut heads,
+        &mut lengths,
+        &mut keys,
+        &mut set,
+        &mut large,
+        seeds,
+        bitmap,
+        work,
+    )
 }

@@ -26,7 +26,7 @@ use Rattle.window.proofs.take.Reads as take-reads
 abbrev Inv-loop : tie.InvT-loop
 Inv-loop g ring bump hashes begins table weights lo hi z queues₀ heads₀ lengths₀ keys₀ set₀ large₀ seeds₀ bitmap₀ work₀ turn₀ first-slot₀ view₀ queues heads lengths keys set large seeds bitmap work turn first-slot view =
     ((i : Input) → Starting i g bump hashes begins table weights lo hi z (state queues₀ heads₀ lengths₀ keys₀ set₀ large₀ (viewAt lo)) seeds₀ bitmap₀ work₀
-        → Sweeping i bump lo hi turn (state queues heads lengths keys set large view) first-slot z seeds bitmap work)
+    → Sweeping i bump lo hi turn (state queues heads lengths keys set large view) first-slot z seeds bitmap work)
     × (length seeds ≡ length seeds₀) × (length bitmap ≡ length bitmap₀) × (length work ≡ length work₀)
 
 abbrev μ-loop : tie.MeasureT-loop
@@ -74,9 +74,10 @@ returns c = λ i h.
 -- src/turning.rt:126:13
 take-requires : tie.Need-take-requires Inv-loop μ-loop
 take-requires c κs =
-    let b = c .before .before .before .before .before .before .before .before .before .before .before .before .before .before .before .before .before .before .before .before .before .before .pre .1 in
-    (record { i = b .i; lo = _; k = _; ranged = b .starting .ranged; full = c .before .before .before .before .before .before .before .before .refill .ensures (b .i) _ _ (b .starting .ranged) (c .before .before .before .before .before .before .before .before .before .before .before .before .before .before .before .loop .inv .0 (b .i) (b .starting) .windowed) },
-    not-empty _ _ (sym (c .before .before .before .before .before .before .before .is-empty .ensures .0) ∙ c .before .before .before .before .before .before .if1 .left))
+    let b = c .before .before .before .before .before .before .before .before .before .before .before .before .before .before .before .before .before .before .before .before .before .before .pre .1 in (
+      record { i = b .i; lo = _; k = _; ranged = b .starting .ranged; full = c .before .before .before .before .before .before .before .before .refill .ensures (b .i) _ _ (b .starting .ranged) (c .before .before .before .before .before .before .before .before .before .before .before .before .before .before .before .loop .inv .0 (b .i) (b .starting) .windowed) },
+      not-empty _ _ (sym (c .before .before .before .before .before .before .before .is-empty .ensures .0) ∙ c .before .before .before .before .before .before .if1 .left),
+    )
 
 -- src/turning.rt:138:9
 advance-requires : tie.Need-advance-requires Inv-loop μ-loop
@@ -155,23 +156,27 @@ loop-less c =
 
 -- src/turning.rt:110:5
 loop-again : tie.Need-loop-again Inv-loop μ-loop
-loop-again c = (λ i h.
-    let sw = c .before .before .before .before .before .before .before .before .before .before .before .before .before .before .before .before .before .before .before .before .before .before .before .before .before .before .before .before .before .before .before .before .before .loop .inv .0 i h in
-    let o = c .before .before .before .before .before .before .before .before .before .before .before .before .before .before .before .before .before .before .before .before .before .before .before .before .before .before .refill .result .oldest in
-    let f = c .before .before .before .before .before .before .before .before .before .before .before .before .before .before .before .before .before .before .before .before .before .before .before .before .before .before .refill .ensures i _ _ (h .ranged) (sw .windowed) in
-    let t = c .before .before .before .before .before .before .before .before .before .before .before .before .before .before .before .before .before .take .ensures .0 i _ _ (h .ranged) f in
-    let e = c .before .before .before .before .before .before .before .before .before .before .before .before .before .before .before .before .before .before .before .before .before .before .before .before .before .before .before .before .before .before .before .before .before .before .before .before .before .before .before .before .pre .0 in
-    let a = c .before .before .before .before .before .before .before .before .before .before .before .before .before .before .advance .ensures in
-    let u = turn-of o (h .range) t (first-out (h .level) e _ o (a .0 .0)) (reach-out (h .level) e _ o (a .0 .1)) (c .before .before .before .before .before .before .before .before .before .before .before .before .before .before .before .before .before .take .ensures .1) in
-    let w = buffers-moved (sw .buffers) (caches-out (h .level) e (a .1)) (c .before .before .before .before .before .before .before .before .before .before .before .before .before .before .advance .kept .1 .1 .0) in
-    let v = c .before .before .before .before .before .before .before .before .serve .ensures i _ _ _ _ (h .level) w u in
-    record {
-      windowed = t .windowed;
-      buffers = v .buffers;
-      behind = behind-next f (t .some) (omega (arith, u .high)) (first-out (h .level) e _ o (a .0 .0));
-      no-zero = goes-on u v (sw .no-zero) (λ q. ⊎-elim (λ x. absurd (both-off _ q (x .1 .left))) (λ x. x .left) (c .before .if2 .came));
-    },
-    c .before .before .before .before .before .before .before .before .serve .kept .1 .1 .1 .1 .1 .1 .1 .0 ∙ c .before .before .before .before .before .before .before .before .before .before .before .before .before .before .before .before .before .before .before .before .before .before .before .before .before .before .before .before .before .before .before .before .before .loop .inv .1, c .before .before .before .before .before .before .before .before .serve .kept .1 .1 .1 .1 .1 .1 .1 .1 .0 ∙ c .before .before .before .before .before .before .before .before .before .before .before .before .before .before .before .before .before .before .before .before .before .before .before .before .before .before .before .before .before .before .before .before .before .loop .inv .2, c .before .before .before .before .before .before .before .before .serve .kept .1 .1 .1 .1 .1 .1 .1 .1 .1 .0 ∙ c .before .before .before .before .before .before .before .before .before .before .before .before .before .before .advance .kept .1 .1 .0 ∙ c .before .before .before .before .before .before .before .before .before .before .before .before .before .before .before .before .before .before .before .before .before .before .before .before .before .before .before .before .before .before .before .before .before .loop .inv .3)
+loop-again c = (
+  λ i h.
+      let sw = c .before .before .before .before .before .before .before .before .before .before .before .before .before .before .before .before .before .before .before .before .before .before .before .before .before .before .before .before .before .before .before .before .before .loop .inv .0 i h in
+      let o = c .before .before .before .before .before .before .before .before .before .before .before .before .before .before .before .before .before .before .before .before .before .before .before .before .before .before .refill .result .oldest in
+      let f = c .before .before .before .before .before .before .before .before .before .before .before .before .before .before .before .before .before .before .before .before .before .before .before .before .before .before .refill .ensures i _ _ (h .ranged) (sw .windowed) in
+      let t = c .before .before .before .before .before .before .before .before .before .before .before .before .before .before .before .before .before .take .ensures .0 i _ _ (h .ranged) f in
+      let e = c .before .before .before .before .before .before .before .before .before .before .before .before .before .before .before .before .before .before .before .before .before .before .before .before .before .before .before .before .before .before .before .before .before .before .before .before .before .before .before .before .pre .0 in
+      let a = c .before .before .before .before .before .before .before .before .before .before .before .before .before .before .advance .ensures in
+      let u = turn-of o (h .range) t (first-out (h .level) e _ o (a .0 .0)) (reach-out (h .level) e _ o (a .0 .1)) (c .before .before .before .before .before .before .before .before .before .before .before .before .before .before .before .before .before .take .ensures .1) in
+      let w = buffers-moved (sw .buffers) (caches-out (h .level) e (a .1)) (c .before .before .before .before .before .before .before .before .before .before .before .before .before .before .advance .kept .1 .1 .0) in
+      let v = c .before .before .before .before .before .before .before .before .serve .ensures i _ _ _ _ (h .level) w u in
+      record {
+        windowed = t .windowed;
+        buffers = v .buffers;
+        behind = behind-next f (t .some) (omega (arith, u .high)) (first-out (h .level) e _ o (a .0 .0));
+        no-zero = goes-on u v (sw .no-zero) (λ q. ⊎-elim (λ x. absurd (both-off _ q (x .1 .left))) (λ x. x .left) (c .before .if2 .came));
+      },
+  c .before .before .before .before .before .before .before .before .serve .kept .1 .1 .1 .1 .1 .1 .1 .0 ∙ c .before .before .before .before .before .before .before .before .before .before .before .before .before .before .before .before .before .before .before .before .before .before .before .before .before .before .before .before .before .before .before .before .before .loop .inv .1,
+  c .before .before .before .before .before .before .before .before .serve .kept .1 .1 .1 .1 .1 .1 .1 .1 .0 ∙ c .before .before .before .before .before .before .before .before .before .before .before .before .before .before .before .before .before .before .before .before .before .before .before .before .before .before .before .before .before .before .before .before .before .loop .inv .2,
+  c .before .before .before .before .before .before .before .before .serve .kept .1 .1 .1 .1 .1 .1 .1 .1 .1 .0 ∙ c .before .before .before .before .before .before .before .before .before .before .before .before .before .before .advance .kept .1 .1 .0 ∙ c .before .before .before .before .before .before .before .before .before .before .before .before .before .before .before .before .before .before .before .before .before .before .before .before .before .before .before .before .before .before .before .before .before .loop .inv .3,
+)
 
 pub take-turns-spec : {M : Type 1} → statement M
 take-turns-spec =

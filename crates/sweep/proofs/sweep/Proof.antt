@@ -1,0 +1,59 @@
+use borrow.Author.Needs.{needs}
+use Rattle.sweep.proofs.sweep.Statement.{statement}
+use Rattle.sweep.proofs.sweep.Tie as tie
+use Rattle.sweep.proofs.sweep.Reads as reads
+use Rattle.sweep.proofs.sweep.Lts as lts
+use Rattle.checks.proofs.check_all.Reads as check-all-reads
+use Rattle.geometry.proofs.shape.geometry_of.Reads as geometry-of-reads
+use Rattle.sweep.proofs.perform.Reads as perform-reads
+use Rattle.sweep.proofs.refused.Reads as refused-reads
+
+-- src/lib.rt:111:9
+check-all-requires : tie.Need-check-all-requires
+check-all-requires c κs = search needs
+
+-- src/lib.rt:123:9
+refused-requires : tie.Need-refused-requires
+refused-requires c κs = search needs
+
+-- src/lib.rt:123:9
+returns : tie.Need-returns
+returns c = ?
+
+-- src/lib.rt:126:9
+geometry-of-requires : tie.Need-geometry-of-requires
+geometry-of-requires c κs = ?
+
+-- src/lib.rt:125:5
+perform-requires : tie.Need-perform-requires
+perform-requires c κs = ?
+
+-- src/lib.rt:91:1
+same-length : tie.Need-same-length
+same-length c = search needs
+
+-- src/lib.rt:91:1
+same-length-2 : tie.Need-same-length-2
+same-length-2 c = search needs
+
+-- src/lib.rt:91:1
+same-length-3 : tie.Need-same-length-3
+same-length-3 c = search needs
+
+-- src/lib.rt:91:1
+returns-2 : tie.Need-returns-2
+returns-2 c = ?
+
+pub sweep-spec : {M : Type 1} → statement M
+sweep-spec =
+    tie.close
+    (tie.spec
+    check-all-requires
+    refused-requires
+    returns
+    geometry-of-requires
+    perform-requires
+    same-length
+    same-length-2
+    same-length-3
+    returns-2)
