@@ -2,3 +2,4 @@ pub mod CountLaws
 pub mod TurnLaws
 pub mod StepLaws
 pub mod StartLaws
+pub mod PerformLaws

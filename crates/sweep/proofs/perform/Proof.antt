@@ -1,3 +1,16 @@
+use Rattle.sweep.proofs.PerformLaws.{many-buckets}
+use Rattle.sweep.specs.Performing.{Left}
+use Rattle.rules.specs.Good.{Passed}
+use Rattle.rules.specs.declared.SweepRecord.{SweepRecord}
+use Rattle.rules.specs.Order.{Input, inputOf}
+use Rattle.sweep.proofs.PerformLaws.{words-room, regular, blank, cleared-long, cleared-all, left-done, left-stopped}
+use Rattle.sweep.proofs.CountLaws.{counted-all}
+use lib.Seq.{length-take-le}
+use lib.ListN.{length, take, drop, replicate, length-append}
+use mathlib.Core.List.{List}
+use Prim.Native.Nat.{ℕ, _≤_}
+use native.Mathlib.Omega.{arith}
+use mathlib.Core.Path.{_≡_, refl, sym, ap, _∙_, subst}
 use borrow.Author.Needs.{needs}
 use Rattle.sweep.proofs.perform.Statement.{statement}
 use Rattle.sweep.proofs.perform.Tie as tie
@@ -10,6 +23,19 @@ use Rattle.sweep.proofs.done.Reads as done-reads
 use Rattle.sweep.proofs.refused.Reads as refused-reads
 use Rattle.sweep.proofs.turning.run.Reads as run-reads
 
+-- the lengths after the run
+module _ (c : tie.After-run) where
+  part-long : length (c .run .last .1 .1 .1 .1 .1 .1 .1 .1 .1 .0) ≡ c .before .before .before .before .before .before .before .before .before .before .before .before .before .before .before .before .before .before .before .before .before .before .args .words
+  part-long =
+      c .run .kept .1 .1 .1 .1 .1 .1 .1 .1 .1 .0
+      ∙ length-take-le (c .before .before .before .before .before .before .before .before .before .before .before .before .before .before .before .before .before .before .before .before .before .before .args .words) (c .before .before .before .before .before .before .clear2 .last .0) (omega (arith, words-room (c .before .before .before .before .before .before .before .before .before .before .before .before .before .before .before .before .before .before .before .before .before .before .pre), cleared-long (c .before .before .before .before .before .before .before .before .before .before .before .before .before .before .before .before .before .before .before .before .before .before .args .words) (c .before .before .before .before .before .before .before .before .before .before .before .before .before .before .before .before .before .before .before .before .before .before .args .work .now) (c .before .before .before .before .before .before .clear2 .last .0) (c .before .before .before .before .before .before .clear2 .ensures) (words-room (c .before .before .before .before .before .before .before .before .before .before .before .before .before .before .before .before .before .before .before .before .before .before .pre))))
+
+  seeds-long : length (c .run .last .1 .1 .1 .1 .1 .1 .1 .0) ≡ length (c .before .before .before .before .before .before .before .before .before .before .before .before .before .before .before .before .before .before .before .before .before .before .args .seeds .now)
+  seeds-long = c .run .kept .1 .1 .1 .1 .1 .1 .1 .0 ∙ c .before .before .before .before .before .before .before .before .before .before .before .before .before .before .clear-seeds .kept .0
+
+  map-long : length (c .run .last .1 .1 .1 .1 .1 .1 .1 .1 .0) ≡ length (c .before .before .before .before .before .before .before .before .before .before .before .before .before .before .before .before .before .before .before .before .before .before .args .bitmap .now)
+  map-long = c .run .kept .1 .1 .1 .1 .1 .1 .1 .1 .0 ∙ c .before .before .before .before .before .before .before .before .before .before .clear .kept .0
+
 -- src/lib.rt:64:5
 clear-seeds-requires : tie.Need-clear-seeds-requires
 clear-seeds-requires c κs = search needs
@@ -20,23 +46,23 @@ clear-requires c κs = search needs
 
 -- src/lib.rt:66:5
 clear-requires-2 : tie.Need-clear-requires-2
-clear-requires-2 c κs = ?
+clear-requires-2 c κs = words-room (c .before .before .before .before .before .before .before .before .before .before .before .before .before .before .before .pre)
 
 -- src/lib.rt:77:9
 slice-relend-prefix-run : tie.Need-slice-relend-prefix-run
-slice-relend-prefix-run c = ?
+slice-relend-prefix-run c = omega (arith, words-room (c .before .before .before .before .before .before .before .before .before .before .before .before .before .before .before .before .before .before .before .before .pre), cleared-long (c .before .before .before .before .before .before .before .before .before .before .before .before .before .before .before .before .before .before .before .before .args .words) (c .before .before .before .before .before .before .before .before .before .before .before .before .before .before .before .before .before .before .before .before .args .work .now) (c .before .before .before .before .clear2 .last .0) (c .before .before .before .before .clear2 .ensures) (words-room (c .before .before .before .before .before .before .before .before .before .before .before .before .before .before .before .before .before .before .before .before .pre)))
 
 -- src/lib.rt:77:9
 slice-aggregate-run : tie.Need-slice-aggregate-run
-slice-aggregate-run c = ?
+slice-aggregate-run c = sym (length-take-le (c .before .before .before .before .before .before .before .before .before .before .before .before .before .before .before .before .before .before .before .before .before .args .words) (c .before .before .before .before .before .clear2 .last .0) (omega (arith, words-room (c .before .before .before .before .before .before .before .before .before .before .before .before .before .before .before .before .before .before .before .before .before .pre), cleared-long (c .before .before .before .before .before .before .before .before .before .before .before .before .before .before .before .before .before .before .before .before .before .args .words) (c .before .before .before .before .before .before .before .before .before .before .before .before .before .before .before .before .before .before .before .before .before .args .work .now) (c .before .before .before .before .before .clear2 .last .0) (c .before .before .before .before .before .clear2 .ensures) (words-room (c .before .before .before .before .before .before .before .before .before .before .before .before .before .before .before .before .before .before .before .before .before .pre)))))
 
 -- src/lib.rt:67:9
 run-requires : tie.Need-run-requires
-run-requires c κs = ?
+run-requires c κs = blank (c .before .before .before .before .before .before .before .before .before .before .before .before .before .before .before .before .before .before .before .before .before .pre) (c .before .before .before .before .before .before .before .before .before .before .before .before .before .clear-seeds .ensures) refl (c .before .before .before .before .before .before .before .before .before .clear .ensures) (c .before .before .before .before .before .clear2 .ensures)
 
 -- src/lib.rt:79:5
 clear-requires-3 : tie.Need-clear-requires-3
-clear-requires-3 c κs = ?
+clear-requires-3 c κs = omega (arith, part-long (c .before .before .before .before .before .before .before), length-append (c .before .before .before .before .before .before .before .run .last .1 .1 .1 .1 .1 .1 .1 .1 .1 .0) (drop (c .before .before .before .before .before .before .before .before .before .before .before .before .before .before .before .before .before .before .before .before .before .before .before .before .before .before .before .before .before .args .words) (c .before .before .before .before .before .before .before .before .before .before .before .before .before .clear2 .last .0)))
 
 -- src/lib.rt:81:44
 enum-told : tie.Need-enum-told
@@ -44,7 +70,7 @@ enum-told c = search needs
 
 -- src/lib.rt:81:28
 counted-requires : tie.Need-counted-requires
-counted-requires c κs = ?
+counted-requires c κs = regular (c .before .before .before .before .before .before .before .before .before .before .before .before .before .before .before .before .before .before .before .before .before .before .before .before .before .before .before .before .before .before .before .before .before .before .before .pre) (c .before .before .before .before .before .before .before .before .before .before .before .before .before .run .last .1 .1 .1 .1 .1 .1 .1 .0) (seeds-long (c .before .before .before .before .before .before .before .before .before .before .before .before .before))
 
 -- src/lib.rt:81:23
 done-requires : tie.Need-done-requires
@@ -68,7 +94,7 @@ refused-requires c κs = search needs
 
 -- src/lib.rt:46:1
 same-length : tie.Need-same-length
-same-length c = ?
+same-length c = seeds-long (c .before .before .before .before .before .before .before .before .before .before .before .before .before .before .before)
 
 -- src/lib.rt:46:1
 same-length-2 : tie.Need-same-length-2
@@ -80,11 +106,16 @@ same-length-3 c = search needs
 
 -- src/lib.rt:46:1
 returns : tie.Need-returns
-returns c = ?
+returns c =
+    let s = c .before .before .before .before .before .before .before .before .before .before .before .before .before .before .before .before .before .before .before .before .before .before .before .before .before .before .before .before .before .before .before .before .before .before .before .before .before in
+    let i = inputOf (s .args .g .settings) (s .args .weights) (s .args .hashes .now) (s .args .begins .now) (s .args .table .now) in
+    subst (λ (r : SweepRecord). Left i (s .args .bump) (s .args .seeds .now) (s .args .bitmap .now) (s .args .work .now) r (c .before .before .before .before .before .before .before .before .before .before .before .before .before .before .before .run .last .1 .1 .1 .1 .1 .1 .1 .0) (c .before .before .before .before .before .before .before .before .before .before .before .before .before .before .before .run .last .1 .1 .1 .1 .1 .1 .1 .1 .0) (c .before .before .before .before .before .before .before .clear3 .last .0)) (sym (c .done .ensures))
+    (left-done (s .pre) (c .before .before .before .before .before .before .before .before .before .before .before .before .before .before .before .run .last .1 .1 .1 .1 .1 .1 .1 .1 .1 .0) (c .before .before .before .before .before .before .before .before .before .before .before .before .before .before .before .run .ensures) (c .before .before .before .before .before .before .before .before .before .before .before .before .before .before .before .before .before .before .before .before .before .clear2 .ensures) (part-long (c .before .before .before .before .before .before .before .before .before .before .before .before .before .before .before)) (c .before .before .before .before .before .before .before .clear3 .ensures) (c .before .before .before .enum-told .given .1)
+    (counted-all (c .before .counted .ensures) i refl (many-buckets (s .pre) ∙ sym (seeds-long (c .before .before .before .before .before .before .before .before .before .before .before .before .before .before .before)))))
 
 -- src/lib.rt:46:1
 same-length-4 : tie.Need-same-length-4
-same-length-4 c = ?
+same-length-4 c = c .before .before .before .before .before .before .before .clear-seeds2 .kept .0 ∙ seeds-long (c .before .before .before .before .before .before .before .before .before .before .before .before .before .before .before .before .before .before .before .before .before .before)
 
 -- src/lib.rt:46:1
 same-length-5 : tie.Need-same-length-5
@@ -96,7 +127,13 @@ same-length-6 c = search needs
 
 -- src/lib.rt:46:1
 returns-2 : tie.Need-returns-2
-returns-2 c = ?
+returns-2 c =
+    let s = c .before .before .before .before .before .before .before .before .before .before .before .before .before .before .before .before .before .before .before .before .before .before .before .before .before .before .before .before .before .before .before .before .before .before .before .before .before .before .before .before .before .before .before .before in
+    let i = inputOf (s .args .g .settings) (s .args .weights) (s .args .hashes .now) (s .args .begins .now) (s .args .table .now) in
+    subst (λ (r : SweepRecord). Left i (s .args .bump) (s .args .seeds .now) (s .args .bitmap .now) (s .args .work .now) r (c .before .before .before .before .before .before .before .clear-seeds2 .last .0) (c .before .before .before .clear4 .last .0) (c .before .before .before .before .before .before .before .before .before .before .before .before .before .before .clear3 .last .0)) (sym (c .refused .ensures))
+    (left-stopped (s .pre) (c .before .before .before .before .before .before .before .before .before .before .before .before .before .before .before .before .before .before .before .before .before .before .run .last .1 .1 .1 .1 .1 .1 .1 .1 .1 .0) (c .before .before .before .before .before .before .before .before .before .before .before .before .before .before .before .before .before .before .before .before .before .before .run .ensures) (c .before .before .before .before .before .before .before .before .before .before .before .before .before .before .before .before .before .before .before .before .before .before .before .before .before .before .before .before .clear2 .ensures) (part-long (c .before .before .before .before .before .before .before .before .before .before .before .before .before .before .before .before .before .before .before .before .before .before)) (c .before .before .before .before .before .before .before .before .before .before .before .before .before .before .clear3 .ensures) (c .before .before .before .before .before .before .before .before .before .before .ended .given .1)
+    (c .before .before .before .before .before .before .before .clear-seeds2 .ensures ∙ ap (λ (k : ℕ). replicate k 0) (seeds-long (c .before .before .before .before .before .before .before .before .before .before .before .before .before .before .before .before .before .before .before .before .before .before)))
+    (cleared-all (length (s .args .bitmap .now)) (c .before .before .before .before .before .before .before .before .before .before .before .before .before .before .before .before .before .before .before .before .before .before .run .last .1 .1 .1 .1 .1 .1 .1 .1 .0) (c .before .before .before .clear4 .last .0) (sym (map-long (c .before .before .before .before .before .before .before .before .before .before .before .before .before .before .before .before .before .before .before .before .before .before))) (c .before .before .before .clear4 .ensures)))
 
 pub perform-spec : {M : Type 1} → statement M
 perform-spec =

@@ -1,3 +1,8 @@
+use Rattle.sweep.proofs.PerformLaws.{left-refused, usable, performing, left-by}
+use Rattle.sweep.specs.Performing.{Left}
+use Rattle.rules.specs.declared.SweepRecord.{SweepRecord}
+use Rattle.rules.specs.Order.{Input, inputOf}
+use mathlib.Core.Path.{_≡_, refl, sym, ap, _∙_, subst}
 use borrow.Author.Needs.{needs}
 use Rattle.sweep.proofs.sweep.Statement.{statement}
 use Rattle.sweep.proofs.sweep.Tie as tie
@@ -18,15 +23,24 @@ refused-requires c κs = search needs
 
 -- src/lib.rt:123:9
 returns : tie.Need-returns
-returns c = ?
+returns c =
+    let a = c .before .before .before .before .before .before .before .before .before .args in
+    let l =
+    subst (λ (r : SweepRecord). Left (inputOf (a .settings) (a .weights) (a .hashes .now) (a .begins .now) (a .table .now)) (a .bump) (a .seeds .now) (a .bitmap .now) (a .work .now) r (a .seeds .now) (a .bitmap .now) (a .work .now)) (sym (c .refused .ensures))
+    (left-refused (c .before .before .check-all .ensures .number) (c .before .if1 .taken)) in
+    (l .answer, (l .given, (l .marked, l .worked)))
 
 -- src/lib.rt:126:9
 geometry-of-requires : tie.Need-geometry-of-requires
-geometry-of-requires c κs = ?
+geometry-of-requires c κs =
+    let a = c .before .before .before .before .before .before .before .before .args in
+    usable (a .settings) (a .weights) (a .hashes .now) (a .begins .now) (a .table .now) (a .seeds .now) (a .bitmap .now) (a .work .now) (c .before .check-all .ensures) (c .if1 .left)
 
 -- src/lib.rt:125:5
 perform-requires : tie.Need-perform-requires
-perform-requires c κs = ?
+perform-requires c κs =
+    let a = c .before .before .before .before .before .before .before .before .before .before .before .before .args in
+    performing (a .settings) (a .weights) (a .hashes .now) (a .begins .now) (a .table .now) (a .seeds .now) (a .bitmap .now) (a .work .now) (c .before .before .before .before .before .check-all .ensures) (c .before .before .before .before .if1 .left) (c .before .before .before .geometry-of .ensures)
 
 -- src/lib.rt:91:1
 same-length : tie.Need-same-length
@@ -42,7 +56,10 @@ same-length-3 c = search needs
 
 -- src/lib.rt:91:1
 returns-2 : tie.Need-returns-2
-returns-2 c = ?
+returns-2 c =
+    let a = c .before .before .before .before .before .before .before .before .before .before .before .before .before .before .before .before .before .before .before .args in
+    let l = left-by (a .settings) (a .weights) (a .hashes .now) (a .begins .now) (a .table .now) (a .seeds .now) (a .bitmap .now) (a .work .now) (c .before .before .before .before .before .before .before .before .before .before .geometry-of .ensures) (c .before .before .before .before .before .before .perform .ensures) in
+    (l .answer, (l .given, (l .marked, l .worked)))
 
 pub sweep-spec : {M : Type 1} → statement M
 sweep-spec =
