@@ -11,3 +11,5 @@ pub mod Searching
 pub mod HeldLaws
 pub mod Chosen
 pub mod PreparedLaws
+pub mod LaidLaws
+pub mod ReadyLaws

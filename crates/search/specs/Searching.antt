@@ -87,8 +87,8 @@ abbrev pub Found : (g : Geometry) (ring : Ring) (table keys : List ℕ) (b z : �
 Found g ring table keys b z bitmap work seed bitmap' work' =
     (i : Input) (marked : List ℕ) (first : ℕ) → Ready i marked first g ring table keys b z bitmap work → Searched i marked first b work seed bitmap' work'
 
--- the arguments of the pass over all free rotations: the keys' words end before `mid`, and from there to `to` is room to sort the hashes
-pub record Retry (i : Input) (marked : List ℕ) (first b : ℕ) (ring : Ring) (layouts : ℕ) (table keys : List ℕ) (start at mid to count : ℕ) (bitmap work : List ℕ) : Type 0 where
+-- the same in the code's terms: the work words as the code has laid them out. The ring keys end before `mid`, and from there to `to` is room to sort the hashes
+pub record Laid (i : Input) (marked : List ℕ) (first b : ℕ) (ring : Ring) (layouts : ℕ) (table keys : List ℕ) (start at mid to count : ℕ) (bitmap work : List ℕ) : Type 0 where
   pub prepared : Prepared i marked first b bitmap work at to count
   pub level : ring ≡ levelRing (i .settings)
   pub all : layouts ≡ G.layouts (i .settings)
@@ -98,13 +98,14 @@ pub record Retry (i : Input) (marked : List ℕ) (first b : ℕ) (ring : Ring) (
   pub below : at + layouts * length keys ≤ mid
   pub room : mid + 2 * length keys ≤ to
 
+-- what the pass over all free rotations asks for, and what it promises
 pub record Retrying (ring : Ring) (layouts : ℕ) (table keys : List ℕ) (start at mid to count : ℕ) (bitmap work : List ℕ) : Type 0 where
   pub i : Input
   pub marked : List ℕ
   pub first : ℕ
   pub b : ℕ
-  pub retry : Retry i marked first b ring layouts table keys start at mid to count bitmap work
+  pub laid : Laid i marked first b ring layouts table keys start at mid to count bitmap work
 
 abbrev pub Retried : (ring : Ring) (layouts : ℕ) (table keys : List ℕ) (start at mid to count : ℕ) (bitmap work : List ℕ) (seed : ℕ) (bitmap' work' : List ℕ) → Type 0
 Retried ring layouts table keys start at mid to count bitmap work seed bitmap' work' =
-    (i : Input) (marked : List ℕ) (first b : ℕ) → Retry i marked first b ring layouts table keys start at mid to count bitmap work → Searched i marked first b work seed bitmap' work'
+    (i : Input) (marked : List ℕ) (first b : ℕ) → Laid i marked first b ring layouts table keys start at mid to count bitmap work → Searched i marked first b work seed bitmap' work'
