@@ -7,6 +7,7 @@ use Prim.Native.Nat.{ℕ, _+_, _-_, _*_, _^_, _≤_, _<_}
 use native.Mathlib.Omega.{arith}
 use lib.Dec.{T}
 use lib.ListN.{length, getD, take, drop}
+use lib.Pow.{pow-mono}
 use lib.Seq.{drop-drop}
 use borrow.Rule.Slice.PartMut.{midOf, putMid, mid-len, same-len-mid, take-put, drop-put}
 use Rattle.rules.specs.Lists.{distinct}
@@ -82,14 +83,27 @@ module _ {i : Input} {marked : List ℕ} {first b : ℕ} {ring : Ring} {layouts 
     room = d .room;
   }
 
+  pub laid-long : to + layouts * count ≤ length work
+  laid-long = rw (d .all) (d .prepared .room .1)
+
+  -- the words from mid to to, lent and given back
+  pub laid-aside-put : (run : List ℕ) → length run ≡ length (midOf mid (to - mid) work) → Aside mid to work (putMid mid (to - mid) work run)
+  laid-aside-put run e = aside-put mid to work run (omega (arith, d .room)) (omega (arith, laid-long)) e
+
+  pub laid-sorted : (run : List ℕ) → length run ≡ length (midOf mid (to - mid) work) → Laid i marked first b ring layouts table keys start at mid to count bitmap (putMid mid (to - mid) work run)
+  laid-sorted run e = laid-aside (laid-aside-put run e)
+
   pub laid-rows : AllRows ring table work at (length keys) start to count layouts
   laid-rows = rw (d .level, d .prices, d .hashes, d .begin, d .all) (all-rows (d .prepared))
 
   pub laid-map : (r : ℕ) → r < layouts → (j : ℕ) → InMap ring (rowAt work at (length keys) r) start j (length bitmap)
   laid-map r lr j = rw (d .level, d .hashes, d .begin) (row-in (d .prepared) r (rw (d .all) at lr) j)
 
-  pub laid-long : to + layouts * count ≤ length work
-  laid-long = rw (d .all) (d .prepared .room .1)
+  pub laid-few : layouts ≤ 64
+  unfolding G.layouts
+  laid-few =
+      let p : 2 ^ i .settings .ll ≤ 2 ^ 6 = pow-mono (d .prepared .held .sound .good .ll-high) in
+      rw (d .all) p
 
   -- two hashes are equal
   pub laid-twins : {same : Bool} (work₀ : List ℕ) → length work ≡ length work₀ → same ≡ not (distinct keys) → same ≡ true → Searched i marked first b work₀ 0 bitmap work

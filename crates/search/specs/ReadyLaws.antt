@@ -28,7 +28,7 @@ use Rattle.ring_keys.specs.RingKey.{ringKeys, Bucket, KeysFilled}
 use Rattle.ring_keys.specs.LayoutLaws.{homes-of, entries-few}
 use Rattle.ring_keys.specs.FilledLaws.{filled-part, filled-ok, filled-priced}
 use Rattle.search.specs.Rows.{rowAt, FreeWords, Looked}
-use Rattle.search.specs.Searching.{Held, Ready, Prepared, Laid}
+use Rattle.search.specs.Searching.{Held, Ready, Searched, Prepared, Laid}
 use Rattle.search.specs.HeldLaws.{free-is}
 use Rattle.search.specs.PreparedLaws.{size-few, start-small}
 
@@ -168,3 +168,39 @@ module _ {i : Input} {marked : List ℕ} {first : ℕ} {g : Geometry} {ring : Ri
       below = below;
       room = sorts;
     }
+
+-- ---- the code's places: the keys behind the ring, then the hashes to sort, then the free words
+
+module _ {i : Input} {marked : List ℕ} {first : ℕ} {g : Geometry} {ring : Ring} {table keys : List ℕ} {b z : ℕ} {bitmap work : List ℕ}
+    (q : Ready i marked first g ring table keys b z bitmap work) {start count : ℕ} (es : start ≡ G.first (g .settings) b) (w : FreeWords (ring .n) count) where
+  pub layouts-room : z * g .layouts ≤ 262144
+  layouts-room = omega (arith, mul-le-mul-left z (layouts-few q), q .most)
+
+  pub keys-room : ring .words + g .layouts * length keys ≤ length work
+  keys-room = omega (arith, keys-fit q, map-fits q count w)
+
+  pub fill-room : ring .words + G.layouts (g .settings) * length keys ≤ length work
+  fill-room = rw (q .settings, ← ready-layouts q) keys-room
+
+  pub keys-end : ring .words + g .layouts * length keys ≤ ring .words + z * (g .layouts + 2)
+  keys-end = omega (arith, keys-fit q)
+
+  module _ {filled : List ℕ} (k : KeysFilled (g .settings) keys start (ring .words) work filled) where
+    pub free-room : ring .words + z * (g .layouts + 2) + g .layouts * count + count ≤ length filled
+    free-room = rw (k .len) (map-fits q count w)
+
+    pub code-keys : Keys (part filled (ring .words) (g .layouts * length keys)) start
+    code-keys = filled-keys q es (omega arith) keys-room k
+
+    pub code-prices : Prices ring table (part filled (ring .words) (g .layouts * length keys))
+    code-prices = filled-prices q es (omega arith) keys-room k
+
+    pub code-laid : {f : Best} {after : List ℕ} → Looked ring table filled (ring .words) (length keys) start (ring .words + z * (g .layouts + 2)) count (g .layouts) f after
+        → Laid i marked first b ring (g .layouts) table keys start (ring .words) (ring .words + z * g .layouts) (ring .words + z * (g .layouts + 2)) count bitmap after
+    code-laid l =
+        laid q es (omega arith) keys-room k (keys-fit q) (omega (arith, q .few)) (omega (arith, map-fits q count w)) l
+
+-- the length that is kept may be counted from an earlier list
+pub searched-since : {i : Input} {marked : List ℕ} {first b : ℕ} {work : List ℕ} {seed : ℕ} {bitmap' work' : List ℕ} (work₀ : List ℕ) → length work ≡ length work₀
+    → Searched i marked first b work seed bitmap' work' → Searched i marked first b work₀ seed bitmap' work'
+searched-since work₀ e s = record { is = s .is; small = s .small; marks = s .marks; caches = s .caches; len = s .len ∙ e }
