@@ -13,3 +13,5 @@ pub mod Chosen
 pub mod PreparedLaws
 pub mod LaidLaws
 pub mod ReadyLaws
+pub mod MarksLaws
+pub mod Witness

@@ -16,6 +16,7 @@ use Rattle.rings.specs.Ring.{Shape, ringBit}
 use Rattle.rings.specs.Keys.{slotAt}
 use Rattle.rings.specs.Place.{keySlot, Within, Fresh, Met}
 use Rattle.rings.specs.PlaceLaws.{fresh-apart, free-fresh, met-clash}
+use Rattle.ring_keys.specs.LayoutLaws.{map-at}
 use Rattle.search.specs.Slots.{slotsAt, Unused, Reached}
 
 -- ---- a list by its elements
@@ -45,11 +46,6 @@ free-at marked (x ∷ xs) t (suc k) l = free-at marked xs (and-right (not (elem 
 pub at-free : (marked xs : List ℕ) → ((k : ℕ) → k < length xs → T (not (elem (getD xs k 0) marked))) → T (allFree marked xs)
 at-free marked [] h = tt
 at-free marked (x ∷ xs) h = and-both (not (elem x marked)) (allFree marked xs) (h 0 (omega arith)) (at-free marked xs (λ k l. h (suc k) (omega arith)))
-
-map-at : (f : ℕ → ℕ) (xs : List ℕ) (k : ℕ) → k < length xs → getD (map f xs) k 0 ≡ f (getD xs k 0)
-map-at f [] k l = absurd (omega arith)
-map-at f (x ∷ xs) zero l = refl
-map-at f (x ∷ xs) (suc k) l = map-at f xs k (omega arith)
 
 -- a map to pairwise different values is one of pairwise different values
 pub map-distinct : (f : ℕ → ℕ) (xs : List ℕ) → T (distinct (map f xs)) → T (distinct xs)
