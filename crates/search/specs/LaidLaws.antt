@@ -1,11 +1,10 @@
 -- The ends of a search in the code's terms, and that sorting in the words between `mid` and `to` leaves the rest as it was laid out. Assumes nothing.
-use mathlib.Core.Path.{_≡_, refl, sym, ap, _∙_}
+use mathlib.Core.Path.{_≡_, sym, ap, _∙_}
 use mathlib.Core.Logic.{_≢_}
-use mathlib.Core.Bool.{Bool, true, false, not}
-use mathlib.Core.List.{List, _++_}
+use mathlib.Core.Bool.{Bool, true, not}
+use mathlib.Core.List.{List}
 use Prim.Native.Nat.{ℕ, _+_, _-_, _*_, _^_, _≤_, _<_}
 use native.Mathlib.Omega.{arith}
-use lib.Dec.{T}
 use lib.ListN.{length, getD, take, drop}
 use lib.Pow.{pow-mono}
 use lib.Seq.{drop-drop}
@@ -13,7 +12,6 @@ use borrow.Rule.Slice.PartMut.{midOf, putMid, mid-len, same-len-mid, take-put, d
 use Rattle.rules.specs.Lists.{distinct}
 use Rattle.rules.specs.Geometry as G
 use Rattle.rules.specs.Order.{Input, keysOf}
-use Rattle.rules.specs.Seed.{seedFor}
 use Rattle.rules.proofs.Tests.{of-true}
 use Rattle.rings.specs.declared.Ring.{Ring}
 use Rattle.rings.specs.Place.{InMap}
@@ -22,13 +20,12 @@ use Rattle.rings.specs.CacheLaws.{caches-front}
 use Rattle.rings.specs.Level.{levelRing}
 use Rattle.rings.specs.LevelLaws.{shape-level}
 use Rattle.best.specs.declared.Best.{Best}
-use Rattle.best.specs.Prices.{isFree, Ended}
 use Rattle.best.specs.Layouts.{row-le}
 use Rattle.search.specs.Rows.{rowAt, bestRows}
 use Rattle.search.specs.Distinct.{bestDistinct, AllRows}
 use Rattle.search.specs.Settle.{Settled, SeedIs}
 use Rattle.search.specs.Chosen.{twins-seed}
-use Rattle.search.specs.Searching.{Held, Searched, Prepared, Laid}
+use Rattle.search.specs.Searching.{Searched, Prepared, Laid}
 use Rattle.search.specs.PreparedLaws.{zero-seed, all-rows, row-in, rows-found, rows-zero, rows-placed, distinct-found, distinct-zero, distinct-placed}
 
 -- ---- the words from mid to to overwritten

@@ -1,13 +1,12 @@
 -- From the arguments of `search` to the work words laid out: the parts fit into the W words that a sweep wants, the ring keys are the bucket's, and the free
 -- words tell which candidates are unbarred with unmarked slots. Assumes nothing.
-use mathlib.Core.Path.{_≡_, refl, sym, ap, _∙_}
+use mathlib.Core.Path.{_≡_, ap, _∙_}
 use mathlib.Core.List.{List}
 use Prim.Native.Nat.{ℕ, _+_, _-_, _*_, _/_, _^_, _≤_, _<_, max}
 use native.Mathlib.Nat.{mul-le-mul-left}
 use native.Mathlib.Omega.{arith}
 use lib.Dec.{eqb}
-use lib.ListN.{length, take}
-use lib.Pow.{pow-mono}
+use lib.ListN.{length}
 use Rattle.rules.specs.Geometry as G
 use Rattle.rules.specs.Order.{Input, keysOf}
 use Rattle.rules.proofs.GeometryLaws.{layouts-pos}
@@ -15,19 +14,18 @@ use Rattle.geometry.specs.declared.shape.Geometry.{Geometry}
 use Rattle.geometry.proofs.Sizes.{sized}
 use Rattle.rings.specs.declared.Ring.{Ring}
 use Rattle.rings.specs.Ring.{Shape}
-use Rattle.rings.specs.RingLaws.{n-le}
 use Rattle.rings.specs.Keys.{Keys, freeAt}
 use Rattle.rings.specs.Parts.{part, front-same, part-same, length-part}
 use Rattle.rings.specs.CacheLaws.{caches-front}
 use Rattle.rings.specs.Level.{levelRing}
 use Rattle.rings.specs.LevelLaws.{shape-level}
 use Rattle.best.specs.declared.Best.{Best}
-use Rattle.best.specs.Prices.{Prices, isFree}
+use Rattle.best.specs.Prices.{Prices}
 use Rattle.best.specs.Layouts.{row-le}
-use Rattle.ring_keys.specs.RingKey.{ringKeys, Bucket, KeysFilled}
+use Rattle.ring_keys.specs.RingKey.{Bucket, KeysFilled}
 use Rattle.ring_keys.specs.LayoutLaws.{homes-of, entries-few}
 use Rattle.ring_keys.specs.FilledLaws.{filled-part, filled-ok, filled-priced}
-use Rattle.search.specs.Rows.{rowAt, FreeWords, Looked}
+use Rattle.search.specs.Rows.{FreeWords, Looked}
 use Rattle.search.specs.Searching.{Held, Ready, Searched, Prepared, Laid}
 use Rattle.search.specs.HeldLaws.{free-is}
 use Rattle.search.specs.PreparedLaws.{size-few, start-small}

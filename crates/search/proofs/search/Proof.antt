@@ -1,7 +1,7 @@
 -- The ring keys are filled in and the best free rotation is looked for; where it is placed its seed is the bucket's, and where two keys meet the pass over
 -- all free rotations goes on from the same words. Assumes nothing.
-use mathlib.Core.Path.{_≡_, _∙_}
-use Prim.Native.Nat.{_+_, _*_, _-_}
+use mathlib.Core.Path.{_∙_}
+use Prim.Native.Nat.{_-_}
 use native.Mathlib.Omega.{arith}
 use borrow.Author.Needs.{needs}
 use Rattle.rings.specs.RingLaws.{n-le}

@@ -1,11 +1,8 @@
 -- Sorting leaves the ring, the ring keys and the free words; then the pass finds the best rotation at which no two keys meet, and places it.
 -- Assumes nothing.
-use mathlib.Core.Path.{_≡_}
-use Prim.Native.Nat.{_+_, _*_, _-_}
+use Prim.Native.Nat.{_-_}
 use native.Mathlib.Omega.{arith}
-use lib.ListN.{length}
 use borrow.Author.Needs.{needs}
-use borrow.Rule.Slice.PartMut.{putMid}
 use Rattle.rings.specs.RingLaws.{n-le}
 use Rattle.search.specs.LaidLaws.{laid-aside-put, laid-sorted, laid-rows, laid-map, laid-few, laid-twins, apart-in, apart-zero, apart-placed}
 use Rattle.search.proofs.search_distinct.Statement.{statement}
