@@ -25,7 +25,8 @@ use Rattle.search.specs.Rows.{rowAt, bestRows}
 use Rattle.search.specs.Distinct.{bestDistinct, AllRows}
 use Rattle.search.specs.Settle.{Settled, SeedIs}
 use Rattle.search.specs.Chosen.{twins-seed}
-use Rattle.search.specs.Searching.{Searched, Prepared, Laid}
+use Rattle.search.specs.Searching.{Searched}
+use Rattle.search.specs.WorkMap.{Prepared, Laid}
 use Rattle.search.specs.PreparedLaws.{zero-seed, all-rows, row-in, rows-found, rows-zero, rows-placed, distinct-found, distinct-zero, distinct-placed}
 
 -- ---- the words from mid to to overwritten

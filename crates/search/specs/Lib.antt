@@ -8,6 +8,7 @@ pub mod Settle
 pub mod SettleLaws
 pub mod Candidates
 pub mod Searching
+pub mod WorkMap
 pub mod HeldLaws
 pub mod Chosen
 pub mod PreparedLaws

@@ -40,7 +40,8 @@ use Rattle.search.specs.Distinct.{isDistinct, bestDistinct, KeyRow, Free
 use Rattle.search.specs.Settle.{Settled, SeedIs}
 use Rattle.search.specs.Candidates.{ringIn, startOf, rowOf, at, seedAt}
 use Rattle.search.specs.Chosen.{found-seed, none-seed}
-use Rattle.search.specs.Searching.{Held, Searched, Prepared}
+use Rattle.search.specs.Searching.{Held, Searched}
+use Rattle.search.specs.WorkMap.{Prepared}
 use Rattle.search.specs.HeldLaws.{row-length, row-reached, row-in-map, slots-are, free-unused, marks-after, caches-after}
 
 -- a seed that is not 0 takes its slots

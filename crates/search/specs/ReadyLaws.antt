@@ -26,7 +26,8 @@ use Rattle.ring_keys.specs.RingKey.{Bucket, KeysFilled}
 use Rattle.ring_keys.specs.LayoutLaws.{homes-of, entries-few}
 use Rattle.ring_keys.specs.FilledLaws.{filled-part, filled-ok, filled-priced}
 use Rattle.search.specs.Rows.{FreeWords, Looked}
-use Rattle.search.specs.Searching.{Held, Ready, Searched, Prepared, Laid}
+use Rattle.search.specs.Searching.{Held, Ready, Searched}
+use Rattle.search.specs.WorkMap.{Prepared, Laid}
 use Rattle.search.specs.HeldLaws.{free-is}
 use Rattle.search.specs.PreparedLaws.{size-few, start-small}
 

@@ -7,7 +7,8 @@
 //   to = at + z (L + 2)   free words, layout after layout: L count
 //   to + L count          wrap points of one layout: count
 // All of it lies within W = slots / 32 + z (L + 2) + 3 L max(n, 64) + 2,560.
-ghost use Rattle.search.specs.Searching.{Searching, Found, Retrying, Retried};
+ghost use Rattle.search.specs.Searching.{Searching, SeedFound};
+ghost use Rattle.search.specs.WorkMap.{Retrying, Retried};
 
 pub mod distinct;
 pub mod look;
@@ -66,7 +67,7 @@ pub fn search(
     work: &mut [u64],
 ) -> usize
     requires { ⌜ Searching g ring (now table) (now keys) b z (now bitmap) (now work) ⌝ }
-    ensures { λ r. ⌜ Found g ring (now (table .entry)) (now (keys .entry)) b z (now (bitmap .entry)) (now (work .entry)) r (now (bitmap .exit)) (now (work .exit)) ⌝ }
+    ensures { λ r. ⌜ SeedFound g ring (now (table .entry)) (now (keys .entry)) b z (now (bitmap .entry)) (now (work .entry)) r (now (bitmap .exit)) (now (work .exit)) ⌝ }
 {
     let size = keys.len();
     let layouts = g.layouts as usize;
