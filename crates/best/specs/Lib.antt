@@ -1,0 +1,13 @@
+pub mod Best
+pub mod BestLaws
+pub mod Least
+pub mod Prices
+pub mod PriceLaws
+pub mod Kept
+pub mod Wraps
+pub mod WrapLaws
+pub mod Segments
+pub mod Layouts
+pub mod Filled
+pub mod Examples
+pub mod Walk
