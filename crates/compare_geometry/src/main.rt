@@ -1,6 +1,7 @@
 // Compares rule G with the Rust: reads what `oracle geometry` writes, works the same numbers out from the settings, and says how many differ.
-// The input: the number of cases; for each case m, log2_slice_len, ll, sb, B; rule G's numbers; z and W; a count, and so many buckets with their
-// first slices; a count, and so many hashes with a seed, the bucket, the slice, the offset and the position.
+// The input is the number of cases and for each: m, log2_slice_len, ll, sb, B; rule G's numbers; z and W; a count, and so many buckets with their
+// first slices; a count, and so many hashes with a seed, the bucket, the slice, the offset and the position. The file `stdin` is one case in
+// 101 of those with the fixed seed.
 ghost use Rattle.geometry.specs.Shape.{Made};
 use comparing::Tally;
 use comparing::held;

@@ -1,4 +1,5 @@
 // Compares the house table with the Rust's own: reads what `oracle table 2048` writes, and says how many entries differ.
+// The file `stdin` is such a table.
 use comparing::Tally;
 use comparing::held;
 use comparing::number;
