@@ -1,4 +1,6 @@
 // What the programs share that compare our answers with the Rust's: numbers read from standard input, and a tally.
+ghost use mathlib.Core.Path.{_≡_};
+ghost use Rattle.comparing.specs.Tallied.{tallied};
 use integers::product::mul_lo;
 
 // The next decimal digit of standard input, or 10 for any other byte and at the end.
@@ -34,8 +36,11 @@ pub struct Tally {
     pub differ: u64,
 }
 
-// Says that the numbers of a case differ.
-fn say(case: u64, name: &[u8], here: u64, rust: u64) {
+// Says that the numbers of a case differ, unless ten were told already.
+fn say(told: u64, case: u64, name: &[u8], here: u64, rust: u64) {
+    if 10 <= told {
+        return;
+    }
     io::write_all(1, b"case ");
     io::print_decimal(1, case);
     io::write_all(1, b", ");
@@ -48,7 +53,9 @@ fn say(case: u64, name: &[u8], here: u64, rust: u64) {
 }
 
 // Compares our number with the Rust's, and says so of the first ten that differ.
-pub fn held(t: Tally, case: u64, name: &[u8], here: u64, rust: u64) -> Tally {
+pub fn held(t: Tally, case: u64, name: &[u8], here: u64, rust: u64) -> Tally
+    ensures { λ r. ⌜ r ≡ tallied t here rust ⌝ }
+{
     let compared = std::num::wrapping_add_u64(t.compared, 1);
     let differ = t.differ;
     if here == rust {
@@ -57,9 +64,7 @@ pub fn held(t: Tally, case: u64, name: &[u8], here: u64, rust: u64) -> Tally {
             differ: differ,
         };
     }
-    if differ < 10 {
-        say(case, name, here, rust);
-    }
+    say(differ, case, name, here, rust);
     Tally {
         compared: compared,
         differ: std::num::wrapping_add_u64(differ, 1),
