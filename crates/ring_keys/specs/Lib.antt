@@ -1,0 +1,6 @@
+pub mod RingKey
+pub mod HashLaws
+pub mod LayoutLaws
+pub mod CostLaws
+pub mod FilledLaws
+pub mod FillLaws
