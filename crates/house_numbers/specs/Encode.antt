@@ -8,14 +8,14 @@ use lib.Seq.{sets}
 use Rattle.house_numbers.specs.declared.Encoded.{Encoded}
 use Rattle.house_numbers.specs.declared.Encoded.the-variants.{Next, NoRoom}
 
--- the groups of v, of which there are at most as many as the first number says, and one more
+-- the groups of v: as many as it takes, and at most one more than the first number says
 unfoldable pub groupsIn : ℕ → (v : ℕ) → List ℕ
 groupsIn zero v = v ∷ []
 groupsIn (suc f) v = cond (ltb v 128) (v ∷ []) ((128 + v % 128) ∷ groupsIn f (v / 128))
 
--- the bytes of v
+-- the bytes of v, which has at most ten groups where it is below 2^64
 unfoldable pub encoded : (v : ℕ) → List ℕ
-encoded v = groupsIn v v
+encoded v = groupsIn 9 v
 
 -- whether there is room for the bytes of v at a place in so many bytes
 unfoldable pub hasRoom : (v size at : ℕ) → Bool

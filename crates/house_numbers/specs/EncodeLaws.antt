@@ -1,5 +1,5 @@
 -- The bytes of a number, group by group: below 128 the number itself, else its low group and the bytes of the rest.
--- There are enough groups because v / 128 is below v. Assumes nothing.
+-- Ten groups are enough because each division by 128 takes one off the exponent. Assumes nothing.
 use Prim.Native.Nat.{ℕ, zero, suc, _+_, _-_, _*_, _/_, _%_, _^_, _≤_, _<_}
 use native.Mathlib.Omega.{arith}
 use native.Mathlib.Decide.{decLt}
@@ -22,63 +22,71 @@ unfolding groupsIn
 groups-small zero v h = refl
 groups-small (suc f) v h = rw (lt-ltb v 128 h) refl
 
+groups-last : (v : ℕ) → groupsIn 0 v ≡ v ∷ []
+unfolding groupsIn
+groups-last v = refl
+
 groups-large : (f v : ℕ) → 128 ≤ v → groupsIn (suc f) v ≡ (128 + v % 128) ∷ groupsIn f (v / 128)
 unfolding groupsIn
 groups-large f v h = rw (le-ltb v 128 h) refl
 
-groups-enough : (f g v : ℕ) → v ≤ f → v ≤ g → groupsIn f v ≡ groupsIn g v
-groups-enough zero g v hf hg = groups-small 0 v (omega arith) ∙ sym (groups-small g v (omega arith))
-groups-enough (suc f) zero v hf hg = groups-small (suc f) v (omega arith) ∙ sym (groups-small 0 v (omega arith))
+-- v / 128 has one group less
+less : (f v : ℕ) → v < 128 ^ suc (suc f) → v / 128 < 128 ^ suc f
+less f v h = div-lt-iff-lt-mul {x = v} {y = 128 ^ suc f} (lit< tt) .1 (rw (pow-suc 128 (suc f)) at h)
+
+groups-enough : (f g v : ℕ) → v < 128 ^ suc f → v < 128 ^ suc g → groupsIn f v ≡ groupsIn g v
+groups-enough zero g v hf hg = groups-small 0 v hf ∙ sym (groups-small g v hf)
+groups-enough (suc f) zero v hf hg = groups-small (suc f) v hg ∙ sym (groups-small 0 v hg)
 groups-enough (suc f) (suc g) v hf hg =
     by-cases (decLt v 128)
     (λ (h : v < 128). groups-small (suc f) v h ∙ sym (groups-small (suc g) v h))
     (λ (h : v < 128 → ⊥).
     groups-large f v (omega arith)
-    ∙ ap (λ (r : List ℕ). (128 + v % 128) ∷ r) (groups-enough f g (v / 128) (omega arith) (omega arith))
+    ∙ ap (λ (r : List ℕ). (128 + v % 128) ∷ r) (groups-enough f g (v / 128) (less f v hf) (less g v hg))
     ∙ sym (groups-large g v (omega arith)))
+
+groups-most : (f v : ℕ) → length (groupsIn f v) ≤ suc f
+groups-most zero v = omega (arith, ap length (groups-last v))
+groups-most (suc f) v =
+    by-cases (decLt v 128)
+    (λ (h : v < 128). omega (arith, ap length (groups-small (suc f) v h)))
+    (λ (h : v < 128 → ⊥). omega (arith, ap length (groups-large f v (omega arith)), groups-most f (v / 128)))
 
 pub encoded-small : (v : ℕ) → v < 128 → encoded v ≡ v ∷ []
 unfolding encoded
-encoded-small v h = groups-small v v h
+encoded-small v h = groups-small 9 v h
 
-pub encoded-large : (v : ℕ) → 128 ≤ v → encoded v ≡ (128 + v % 128) ∷ encoded (v / 128)
+pub encoded-large : (v : ℕ) → v < 2 ^ 64 → 128 ≤ v → encoded v ≡ (128 + v % 128) ∷ encoded (v / 128)
 unfolding encoded
-encoded-large zero h = absurd (omega arith)
-encoded-large (suc v) h =
-    groups-large v (suc v) h
-    ∙ ap (λ (r : List ℕ). (128 + suc v % 128) ∷ r) (groups-enough v (suc v / 128) (suc v / 128) (omega arith) (omega arith))
+encoded-large v fits h =
+    groups-large 8 v h
+    ∙ ap (λ (r : List ℕ). (128 + v % 128) ∷ r) (groups-enough 8 9 (v / 128) (omega arith) (omega arith))
 
 pub length-small : (v : ℕ) → v < 128 → length (encoded v) ≡ 1
 length-small v h = ap length (encoded-small v h)
 
-pub length-large : (v : ℕ) → 128 ≤ v → length (encoded v) ≡ suc (length (encoded (v / 128)))
-length-large v h = ap length (encoded-large v h)
+pub length-large : (v : ℕ) → v < 2 ^ 64 → 128 ≤ v → length (encoded v) ≡ suc (length (encoded (v / 128)))
+length-large v fits h = ap length (encoded-large v fits h)
 
--- there is at least one group
+-- there is at least one group, and there are at most ten
 pub length-pos : (v : ℕ) → 1 ≤ length (encoded v)
-length-pos v = by-cases (decLt v 128) (λ (h : v < 128). omega (arith, length-small v h)) (λ (h : v < 128 → ⊥). omega (arith, length-large v (omega arith)))
-
--- a number below 128 ^ (k + 1) has at most k + 1
-pub length-most : (k v : ℕ) → v < 128 ^ suc k → length (encoded v) ≤ suc k
-length-most zero v h = omega (arith, length-small v h)
-length-most (suc k) v h =
+unfolding encoded
+length-pos v =
     by-cases (decLt v 128)
-    (λ (g : v < 128). omega (arith, length-small v g))
-    (λ (g : v < 128 → ⊥).
-    let most = length-most k (v / 128) (div-lt-iff-lt-mul {x = v} {y = 128 ^ suc k} (lit< tt) .1 (rw (pow-suc 128 (suc k)) at h)) in
-    omega (arith, length-large v (omega arith), most))
+    (λ (h : v < 128). omega (arith, ap length (groups-small 9 v h)))
+    (λ (h : v < 128 → ⊥). omega (arith, ap length (groups-large 8 v (omega arith))))
 
--- a number of 64 bits has at most ten
-pub length-ten : (v : ℕ) → v < 2 ^ 64 → length (encoded v) ≤ 10
-length-ten v h = length-most 9 v (omega arith)
+pub length-ten : (v : ℕ) → length (encoded v) ≤ 10
+unfolding encoded
+length-ten v = groups-most 9 v
 
 -- ---- the bytes written one after the other
 
 pub sets-small : (out : List ℕ) (at v : ℕ) → v < 128 → set out at v ≡ sets out at (encoded v)
 sets-small out at v h = sym (ap (sets out at) (encoded-small v h))
 
-pub sets-large : (out : List ℕ) (at v : ℕ) → 128 ≤ v → sets (set out at (128 + v % 128)) (at + 1) (encoded (v / 128)) ≡ sets out at (encoded v)
-sets-large out at v h = rw add-one (sym (ap (sets out at) (encoded-large v h)))
+pub sets-large : (out : List ℕ) (at v : ℕ) → v < 2 ^ 64 → 128 ≤ v → sets (set out at (128 + v % 128)) (at + 1) (encoded (v / 128)) ≡ sets out at (encoded v)
+sets-large out at v fits h = rw add-one (sym (ap (sets out at) (encoded-large v fits h)))
 
 -- ---- the answer and the bytes afterwards, with room and without
 

@@ -4,3 +4,4 @@ pub mod Decode
 pub mod EncodeLaws
 pub mod DecodeLaws
 pub mod RoundTrip
+pub mod Sheet

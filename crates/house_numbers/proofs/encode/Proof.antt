@@ -1,3 +1,4 @@
+-- `encode` answers and leaves the bytes as `encodedNext` and `encodedOut` say, with room and without. Assumes nothing.
 use Rattle.house_numbers.specs.EncodeLaws.{next-none, out-kept, next-after, out-set}
 use Rattle.house_numbers.specs.Encode.{encoded}
 use Rattle.house_numbers.specs.declared.Encoded.the-variants.{Next}
@@ -8,42 +9,31 @@ use Prim.Native.Nat.{_+_, _<_, _≤_}
 use borrow.Author.Needs.{needs}
 use Rattle.house_numbers.proofs.encode.Statement.{statement}
 use Rattle.house_numbers.proofs.encode.Tie as tie
-use Rattle.house_numbers.proofs.encode.Reads as reads
-use Rattle.house_numbers.proofs.encode.Lts as lts
-use Rattle.house_numbers.proofs.group_count.Reads as group-count-reads
-use Rattle.house_numbers.proofs.put_groups.Reads as put-groups-reads
 
--- src/lib.rt:94:9
 returns : tie.Need-returns
 returns c =
     let a = c .before .before .args in
     let h : length (a .out .now) < a .at + length (encoded (a .value)) = omega arith in
     (next-none (a .value) (a .out .now) (a .at) h, out-kept (a .value) (a .out .now) (a .at) h)
 
--- src/lib.rt:96:8
 group-count-requires : tie.Need-group-count-requires
 group-count-requires c κs = search needs
 
--- src/lib.rt:96:29
 sub-if2 : tie.Need-sub-if2
 sub-if2 c = search needs
 
--- src/lib.rt:97:9
 returns-2 : tie.Need-returns-2
 returns-2 c =
     let a = c .before .before .before .before .args in
     let h : length (a .out .now) < a .at + length (encoded (a .value)) = omega arith in
     (next-none (a .value) (a .out .now) (a .at) h, out-kept (a .value) (a .out .now) (a .at) h)
 
--- src/lib.rt:99:19
 put-groups-requires : tie.Need-put-groups-requires
 put-groups-requires c κs = search needs
 
--- src/lib.rt:89:1
 same-length : tie.Need-same-length
 same-length c = search needs
 
--- src/lib.rt:89:1
 returns-3 : tie.Need-returns-3
 returns-3 c =
     let a = c .before .before .before .before .before .before .before .before .args in

@@ -1,3 +1,5 @@
+-- `grow` takes one more byte as `grownBy` says. The group fits above the value exactly where it is at most what is left of 64 bits,
+-- shifted down, and then the shift up loses no bit. Assumes nothing.
 use Prim.Native.Nat.{ℕ, _+_, _<_, _^_}
 use Rattle.house_numbers.specs.DecodeLaws.{grown-long, grown-wide, grown-whole, grown-more, value-wide, value-fits, value-is}
 use Rattle.house_numbers.specs.declared.Grown.the-variants as Grow
@@ -8,43 +10,33 @@ use native.Mathlib.Omega.{arith}
 use borrow.Author.Needs.{needs}
 use Rattle.house_numbers.proofs.grow.Statement.{statement}
 use Rattle.house_numbers.proofs.grow.Tie as tie
-use Rattle.house_numbers.proofs.grow.Reads as reads
-use Rattle.house_numbers.proofs.grow.Lts as lts
 
--- src/lib.rt:41:9
 returns : tie.Need-returns
 returns c = grown-long _ _ (c .if1 .taken)
 
--- src/lib.rt:45:17
 mul-shift : tie.Need-mul-shift
 mul-shift c = search needs
 
--- src/lib.rt:46:17
 sub-if2 : tie.Need-sub-if2
 sub-if2 c = search needs
 
--- src/lib.rt:46:16
 shr-if2 : tie.Need-shr-if2
 shr-if2 c = search needs
 
--- src/lib.rt:47:9
 returns-2 : tie.Need-returns-2
 returns-2 c =
     let a = c .before .before .args in
     grown-wide (a .part) (a .byte) (omega arith) (value-wide (a .part) (a .byte) (omega arith) (c .if2 .taken))
 
--- src/lib.rt:49:24
 shl-sum : tie.Need-shl-sum
 shl-sum c = search needs
 
--- src/lib.rt:49:15
 add-sum : tie.Need-add-sum
 add-sum c =
     let a = c .before .before .args in
     let f : a .part .value < 2 ^ 64 = omega arith in
     rw (value-is (a .part) (a .byte) f (c .if2 .left)) (record { fits = value-fits (a .part) (a .byte) f (c .if2 .left) })
 
--- src/lib.rt:51:9
 returns-3 : tie.Need-returns-3
 returns-3 c =
     let a = c .before .before .before .args in
@@ -52,11 +44,9 @@ returns-3 c =
     ap (λ (v : ℕ). Grow.Whole v) (value-is (a .part) (a .byte) f (c .before .if2 .left))
     ∙ grown-whole (a .part) (a .byte) (omega arith) (value-fits (a .part) (a .byte) f (c .before .if2 .left)) (c .if3 .taken)
 
--- src/lib.rt:55:17
 add-t10 : tie.Need-add-t10
 add-t10 c = search needs
 
--- src/lib.rt:35:1
 returns-4 : tie.Need-returns-4
 returns-4 c =
     let a = c .before .before .before .args in
