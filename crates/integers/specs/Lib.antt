@@ -1,1 +1,5 @@
 pub mod Power
+pub mod PowerLaws
+pub mod Division
+pub mod Shifts
+pub mod Ints

@@ -1,1 +1,4 @@
-// Powers of two.
+// Whole numbers that are wider than a word, powers of two, and small choices between two numbers.
+pub mod choice;
+pub mod power;
+pub mod product;

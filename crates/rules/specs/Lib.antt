@@ -8,3 +8,5 @@ pub mod Sweep
 pub mod Holes
 pub mod Numbers
 pub mod Answers
+pub mod Good
+pub mod Ring

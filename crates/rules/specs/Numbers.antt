@@ -80,6 +80,19 @@ stepUp xs b = leb (getD xs b 0) (getD xs (b + 1) 0)
 unfoldable pub rising : List ℕ → (n : ℕ) → Bool
 rising xs n = every (stepUp xs) (below n)
 
+-- begins not B+1 long, not starting at 0, falling, or not ending at the hash count; or more than 67,108,864 hashes
+abbrev pub beginsBad : (begins : List ℕ) → (buckets keys : ℕ) → Bool
+beginsBad begins buckets keys =
+    not (eqb (length begins) (buckets + 1))
+    || not (eqb (getD begins 0 0) 0)
+    || not (rising begins buckets)
+    || not (eqb (getD begins buckets 0) keys)
+    || ltb 67108864 keys
+
+-- table too short, or falling within the entries needed
+abbrev pub tableBad : (table : List ℕ) → (needed : ℕ) → Bool
+tableBad table needed = ltb (length table) needed || not (rising table (needed - 1))
+
 -- the largest of the sizes of a list of buckets
 unfoldable pub largestOf : Input → List ℕ → ℕ
 largestOf i [] = 0
@@ -104,15 +117,9 @@ module _ (i : Input) where
   unfoldable pub line8 : Line
   line8 = line 8 (not (every moderate (i .weights)))
 
-  -- 9: begins not B+1 long, not starting at 0, falling, or not ending at the hash count; or more than 67,108,864 hashes
+  -- 9: begins bad for B buckets and the hash count
   unfoldable pub line9 : Line
-  line9 =
-      line 9
-      (not (eqb (length (i .begins)) (i .settings .buckets + 1))
-      || not (eqb (getD (i .begins) 0 0) 0)
-      || not (rising (i .begins) (i .settings .buckets))
-      || not (eqb (getD (i .begins) (i .settings .buckets) 0) (length (i .hashes)))
-      || ltb 67108864 (length (i .hashes)))
+  line9 = line 9 (beginsBad (i .begins) (i .settings .buckets) (length (i .hashes)))
 
   -- a bucket of at most 4,096 keys
   unfoldable pub smallBucket : (b : ℕ) → Bool
@@ -133,9 +140,9 @@ module _ (i : Input) where
   unfoldable pub line11 : Line
   line11 = line 11 (not (every allHome (below (i .settings .buckets))))
 
-  -- 12: table too short, or falling within the entries needed
+  -- 12: table bad for the entries needed
   unfoldable pub line12 : Line
-  line12 = line 12 (ltb (length (i .table)) (entries (i .settings)) || not (rising (i .table) (entries (i .settings) - 1)))
+  line12 = line 12 (tableBad (i .table) (entries (i .settings)))
 
   -- 13: seeds not B long, bitmap not ceil(m/64) long, or work under W
   unfoldable pub line13 : Lent → Line

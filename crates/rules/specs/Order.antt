@@ -3,10 +3,10 @@ use Prim.Native.Nat.{ℕ, zero, suc, _+_, _-_, _*_, _^_, _%_}
 use mathlib.Core.Bool.{Bool, true, false, cond}
 use mathlib.Core.List.{List, [], _∷_}
 use lib.Dec.{ltb, leb}
-use lib.IntN.{ℤ, _+ℤ_, _-ℤ_, _*ℤ_, negℤ}
+use lib.IntN.{ℤ, _+ℤ_, _-ℤ_, _*ℤ_}
 use lib.IntN as Int
-use lib.Signed.{ltZ}
 use lib.ListN.{getD, length, take, drop}
+use Rattle.integers.specs.Ints.{held}
 use Rattle.rules.specs.declared.Settings.{Settings}
 use Rattle.rules.specs.Lists.{between, filter, best, remove, greater, smaller, thenBy}
 
@@ -30,15 +30,11 @@ keysOf i b = take (sizeOf i b) (drop (getD (i .begins) b 0) (i .hashes))
 unfoldable pub weightEntry : List ℤ → (size : ℕ) → ℤ
 weightEntry ws size = getD ws (size - 1) (Int.pos 0)
 
--- held to ±bound
-unfoldable pub held : (bound : ℤ) → ℤ → ℤ
-held bound w = cond (ltZ bound w) bound (cond (ltZ w (negℤ bound)) (negℤ bound) w)
-
 -- weight of size 1 to 7: that entry; above: (w7-w6)(size-7)+w7, held to ±2^40
 unfoldable pub weight : List ℤ → (size : ℕ) → ℤ
 weight ws size =
     cond (leb size 7) (weightEntry ws size)
-    (held (Int.pos (2 ^ 40)) ((weightEntry ws 7 -ℤ weightEntry ws 6) *ℤ Int.pos (size - 7) +ℤ weightEntry ws 7))
+    (held (2 ^ 40) ((weightEntry ws 7 -ℤ weightEntry ws 6) *ℤ Int.pos (size - 7) +ℤ weightEntry ws 7))
 
 -- weight - 1024b
 unfoldable pub priority : Input → (b : ℕ) → ℤ

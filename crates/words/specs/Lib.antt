@@ -1,2 +1,11 @@
 pub mod Bit
 pub mod Map
+pub mod Next
+pub mod Cases
+pub mod BitLaws
+pub mod ShiftLaws
+pub mod CountLaws
+pub mod RowLaws
+pub mod MapLaws
+pub mod TallyLaws
+pub mod NextLaws

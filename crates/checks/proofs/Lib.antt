@@ -1,0 +1,3 @@
+pub mod Every
+pub mod Weights
+pub mod Sizes
