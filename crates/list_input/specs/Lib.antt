@@ -1,0 +1,5 @@
+-- The sweep list program's input: its form, and what it asks for.
+pub mod Form
+pub mod Asked
+pub mod Scan
+pub mod ScanLaws
