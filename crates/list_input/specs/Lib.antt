@@ -3,3 +3,5 @@ pub mod Form
 pub mod Asked
 pub mod Scan
 pub mod ScanLaws
+pub mod FormLaws
+pub mod Heard

@@ -73,3 +73,20 @@ fedNumbers s numbers (b ∷ bs) = fedNumbers (scanBy s (grownBy (s .part) b)) (s
 -- the input may end here without an error of form
 unfoldable pub scanEnds : Scan → Bool
 scanEnds s = eqb (s .part .groups) 0 && formEnds (s .form)
+
+-- ---- the numbers of the input, once they are known
+
+-- the form after some numbers
+unfoldable pub formAfter : Form → List ℕ → Form
+formAfter f [] = f
+formAfter f (v ∷ ns) = formAfter (formStep f v) ns
+
+-- the count of the numbers after some more
+unfoldable pub countAfter : (count : ℕ) → List ℕ → ℕ
+countAfter count [] = count
+countAfter count (v ∷ ns) = countAfter (counted count) ns
+
+-- the numbers kept after some more
+unfoldable pub keptAfter : (count : ℕ) → (numbers : List ℕ) → List ℕ → List ℕ
+keptAfter count numbers [] = numbers
+keptAfter count numbers (v ∷ ns) = keptAfter (counted count) (storeBy count numbers (Grow.Whole v)) ns
