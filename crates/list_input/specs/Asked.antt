@@ -1,11 +1,12 @@
 -- What the numbers of an input without errors of form ask for. Assumes nothing.
-use Prim.Native.Nat.{ℕ, zero, suc, _+_, _-_, _/_, _%_}
+use Prim.Native.Nat.{ℕ, _+_, _-_, _/_, _%_}
 use mathlib.Core.Bool.{Bool, cond, _||_}
 use mathlib.Core.List.{List, [], _∷_, map}
 use lib.Dec.{eqb, ltb}
 use lib.IntN.{ℤ, pos, negsuc}
-use lib.ListN.{length, getD, take, drop}
+use lib.ListN.{length, getD, drop}
 use Rattle.rules.specs.declared.Settings.{Settings}
+use Rattle.rules.specs.Lists.{countFrom}
 use Rattle.rules.specs.Order.{Input}
 
 -- w ≥ 0 as 2w, else -2w-1: `negsuc k` is -k-1
@@ -17,7 +18,7 @@ unfoldable pub hashesIn : (keys : ℕ) → List ℕ → List ℕ
 hashesIn keys [] = []
 hashesIn keys (x ∷ xs) = cond (ltb 0 keys) (x ∷ hashesIn (keys - 1) xs) (hashesIn x xs)
 
--- where each bucket's keys begin, from a bucket's end on: there are so many hashes before, and so many of the present bucket still to come
+-- where each bucket's keys begin, and at last where they end: there are so many hashes before, and so many of the present bucket still to come
 unfoldable pub beginsIn : (before keys : ℕ) → List ℕ → List ℕ
 beginsIn before keys [] = before ∷ []
 beginsIn before keys (x ∷ xs) = cond (ltb 0 keys) (beginsIn (before + 1) (keys - 1) xs) (before ∷ beginsIn before x xs)
@@ -33,7 +34,7 @@ module _ (ns : List ℕ) where
 
   -- seven weights
   unfoldable pub weightsOf : List ℤ
-  weightsOf = map weightOf (take 7 (drop 5 ns))
+  weightsOf = map (λ (k : ℕ). weightOf (getD ns k 0)) (countFrom 5 7)
 
   unfoldable pub hashesOf : List ℕ
   hashesOf = hashesIn 0 (drop 13 ns)

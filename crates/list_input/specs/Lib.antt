@@ -5,3 +5,5 @@ pub mod Scan
 pub mod ScanLaws
 pub mod FormLaws
 pub mod Heard
+pub mod AskedLaws
+pub mod SplitLaws
