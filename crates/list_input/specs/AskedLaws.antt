@@ -4,7 +4,7 @@ use native.Mathlib.Omega.{arith}
 use native.Mathlib.Numerals.{add-one}
 use native.Mathlib.Decide.{decLt}
 use mathlib.Core.Path.{_≡_, refl, sym, ap, _∙_}
-use mathlib.Core.Bool.{Bool, true, false, cond, _&&_, _||_}
+use mathlib.Core.Bool.{Bool, true, false, cond, _&&_, _||_, or-true}
 use mathlib.Core.Logic.{by-cases}
 use mathlib.Core.List.{List, [], _∷_}
 use lib.Dec.{eqb, leb, ltb}
@@ -32,9 +32,8 @@ and-right : (a b : Bool) → (a && b) ≡ true → b ≡ true
 and-right true b e = e
 and-right false b e = absurd (differ (sym e))
 
-or-true : (a b : Bool) → b ≡ true → (a || b) ≡ true
-or-true true b e = refl
-or-true false b e = e
+or-right : (a b : Bool) → b ≡ true → (a || b) ≡ true
+or-right a b e = ap (λ (x : Bool). a || x) e ∙ or-true a
 
 -- ---- a number of the groups: a hash, or a key count
 
@@ -134,10 +133,10 @@ module _ (ns : List ℕ) (well : wellFormed ns ≡ true) where
   unfolding overSize settingsOf
   over-many h =
       by-cases (decLt 64 (getD ns 12 0))
-      (λ (b : 64 < getD ns 12 0). or-true (ltb 1024 (getD ns 0 0)) _ (rw (lt-ltb 64 (getD ns 12 0) b) refl))
+      (λ (b : 64 < getD ns 12 0). or-right (ltb 1024 (getD ns 0 0)) _ (rw (lt-ltb 64 (getD ns 12 0) b) refl))
       (λ (b : 64 < getD ns 12 0 → ⊥).
       let keys : 128 < length (hashesOf ns) = omega (arith, numbers-count) in
-      or-true (ltb 1024 (getD ns 0 0)) _ (or-true (ltb 64 (getD ns 12 0)) _ (lt-ltb 128 (length (hashesOf ns)) keys)))
+      or-right (ltb 1024 (getD ns 0 0)) _ (or-right (ltb 64 (getD ns 12 0)) _ (lt-ltb 128 (length (hashesOf ns)) keys)))
 
   -- 19 test by test, as the code has it
   pub over-m : 1024 < getD ns 0 0 → true ≡ overSize ns

@@ -3,7 +3,7 @@
 use Prim.Native.Nat.{ℕ, zero, suc, _+_, _-_, _≤_, _<_}
 use native.Mathlib.Omega.{arith}
 use mathlib.Core.Path.{_≡_, refl, sym, ap, _∙_}
-use mathlib.Core.Bool.{Bool, true, false, cond, not, _&&_, _||_}
+use mathlib.Core.Bool.{Bool, true, false, cond, _&&_, and-true, and-false, and-assoc, and-comm}
 use mathlib.Core.List.{List, [], _∷_}
 use lib.Dec.{eqb, leb, ltb, lit≤}
 use lib.ListN.{length, getD, drop}
@@ -37,10 +37,6 @@ step-head : (f : Form) (v : ℕ) → f .head < 13 → formStep f v ≡ record { 
 unfolding formStep headStep
 step-head f v h = rw (lt-ltb (f .head) 13 h) refl
 
-pub and-false : (b : Bool) → (b && false) ≡ false
-and-false true = refl
-and-false false = refl
-
 -- ---- an error stays
 
 pub step-broken : (f : Form) (v : ℕ) → f .fine ≡ false → formStep f v .fine ≡ false
@@ -61,13 +57,7 @@ after-broken (v ∷ ns) f e = after-broken ns (formStep f v) (step-broken f v e)
 
 pub ends-broken : (f : Form) → f .fine ≡ false → formEnds f ≡ false
 unfolding formEnds
-ends-broken f e = rw e (go (leb 13 (f .head)) (eqb (f .keys) 0) (eqb (f .buckets) 0))
-  where
-    go : (a b c : Bool) → (a && (b && (c && false))) ≡ false
-    go true true true = refl
-    go true true false = refl
-    go true false c = refl
-    go false b c = refl
+ends-broken f e = simp (e, and-false)
 
 -- ---- after the head
 
@@ -77,15 +67,9 @@ Ends ns = (f : Form) → 13 ≤ f .head → formEnds (formAfter f ns) ≡ (f .fi
 
 ends-none : Ends []
 unfolding Ends formAfter grouped formEnds
-ends-none f h = rw (le-leb 13 (f .head) h) (go (eqb (f .keys) 0) (eqb (f .buckets) 0) (f .fine))
-  where
-    go : (a b c : Bool) → (a && (b && c)) ≡ (c && (a && b))
-    go true true true = refl
-    go true true false = refl
-    go true false true = refl
-    go true false false = refl
-    go false b true = refl
-    go false b false = refl
+ends-none f h =
+    rw (le-leb 13 (f .head) h)
+    (sym (and-assoc (eqb (f .keys) 0) (eqb (f .buckets) 0) (f .fine)) ∙ and-comm (eqb (f .keys) 0 && eqb (f .buckets) 0) (f .fine))
 
 ends-more : (v : ℕ) (ns : List ℕ) → Ends ns → Ends (v ∷ ns)
 unfolding Ends formAfter grouped
@@ -102,10 +86,6 @@ ends-more v ns ends f h = go (ltb 0 (f .keys)) (ltb 0 (f .buckets)) refl refl
 body-ends : (ns : List ℕ) → Ends ns
 body-ends [] = ends-none
 body-ends (v ∷ ns) = ends-more v ns (body-ends ns)
-
-and-true : (b : Bool) → (b && true) ≡ b
-and-true true = refl
-and-true false = refl
 
 long : (n : ℕ) → leb 13 (suc (suc (suc (suc (suc (suc (suc (suc (suc (suc (suc (suc (suc n))))))))))))) ≡ true
 long n = le-leb 13 (suc (suc (suc (suc (suc (suc (suc (suc (suc (suc (suc (suc (suc n))))))))))))) (omega arith)

@@ -4,7 +4,7 @@ use Prim.Native.Nat.{ℕ, zero, suc, _+_, _-_, _≤_, _<_, min}
 use native.Mathlib.Omega.{arith}
 use native.Mathlib.Numerals.{add-one}
 use mathlib.Core.Path.{_≡_, refl, sym, ap, _∙_}
-use mathlib.Core.Bool.{Bool, true, false, cond, _&&_}
+use mathlib.Core.Bool.{Bool, true, false, cond, _&&_, and-false}
 use mathlib.Core.List.{List, [], _∷_, _++_}
 use mathlib.Core.Option.{Option, none, some}
 use lib.Dec.{eqb, ltb}
@@ -19,7 +19,7 @@ use Rattle.list_input.specs.declared.Form.{Form}
 use Rattle.list_input.specs.declared.Scan.{Scan}
 use Rattle.list_input.specs.Form.{inFront, numbersBy, numbersFrom, numbersOf, wellFormed, ifFormed, formOf}
 use Rattle.list_input.specs.Scan.{formStart, formStep, formEnds, brokenForm, scanStart, counted, scanBy, storeBy, fedScan, fedNumbers, scanEnds, formAfter, countAfter, keptAfter}
-use Rattle.list_input.specs.FormLaws.{and-false, step-broken, ends-broken, form-ends}
+use Rattle.list_input.specs.FormLaws.{step-broken, ends-broken, form-ends}
 
 never : (x : Option (List ℕ)) (ns : List ℕ) → x ≡ none → x ≡ some ns → ⊥
 never x ns e f = let z : _≡_ {A = ℕ} 0 1 = cc in omega arith

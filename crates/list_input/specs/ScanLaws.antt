@@ -26,7 +26,7 @@ module _ (s : Scan) (bytes : List ℕ) (i : ℕ) where
 
     pub numbers-byte : i < length bytes
         → fedNumbers s numbers (drop i bytes)
-          ≡ fedNumbers (scanBy s (grownBy (s .part) (getD bytes i 0))) (storeBy (s .count) numbers (grownBy (s .part) (getD bytes i 0))) (drop (i + 1) bytes)
+        ≡ fedNumbers (scanBy s (grownBy (s .part) (getD bytes i 0))) (storeBy (s .count) numbers (grownBy (s .part) (getD bytes i 0))) (drop (i + 1) bytes)
     unfolding fedNumbers
     numbers-byte h = rw (drop-cons bytes i 0 h) (rw add-one refl)
 

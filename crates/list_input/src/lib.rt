@@ -3,12 +3,12 @@ mod asked;
 mod numbers;
 mod stream;
 
-use house_numbers::Part;
 pub use asked::bump_of;
 pub use asked::over_size;
 pub use asked::settings_of;
 pub use asked::split;
 pub use asked::weights_of;
+use house_numbers::Part;
 pub use stream::feed;
 pub use stream::scan_ends;
 pub use stream::start;

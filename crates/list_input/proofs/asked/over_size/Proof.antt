@@ -1,35 +1,27 @@
+-- `over_size` tests m, B and the keys as `overSize` says; the keys are what is neither head nor key count. Assumes nothing.
 use Rattle.list_input.specs.AskedLaws.{long-enough, numbers-count, over-m, over-buckets, over-keys}
 use native.Mathlib.Omega.{arith}
 use Rattle.list_input.proofs.asked.over_size.Statement.{statement}
 use Rattle.list_input.proofs.asked.over_size.Tie as tie
-use Rattle.list_input.proofs.asked.over_size.Reads as reads
-use Rattle.list_input.proofs.asked.over_size.Lts as lts
 
--- src/asked.rt:65:8
 shared-slice-read-if1 : tie.Need-shared-slice-read-if1
 shared-slice-read-if1 c = omega (arith, long-enough (c .before .args .ns .now) (c .before .pre))
 
--- src/asked.rt:66:9
 returns : tie.Need-returns
 returns c = over-m _ (c .before .before .pre) (c .if1 .taken)
 
--- src/asked.rt:68:19
 shared-slice-read-buckets : tie.Need-shared-slice-read-buckets
 shared-slice-read-buckets c = omega (arith, long-enough (c .before .before .before .args .ns .now) (c .before .before .before .pre))
 
--- src/asked.rt:70:9
 returns-2 : tie.Need-returns-2
 returns-2 c = over-buckets _ (c .before .before .before .before .pre) (c .before .before .if1 .left) (c .if2 .taken)
 
--- src/asked.rt:72:5
 sub-result : tie.Need-sub-result
 sub-result c = long-enough (c .before .before .before .before .args .ns .now) (c .before .before .before .before .pre)
 
--- src/asked.rt:72:5
 sub-result-2 : tie.Need-sub-result-2
 sub-result-2 c = omega (arith, numbers-count (c .before .before .before .before .args .ns .now) (c .before .before .before .before .pre))
 
--- src/asked.rt:61:1
 returns-3 : tie.Need-returns-3
 returns-3 c = over-keys _ (c .before .before .before .before .pre) (c .before .before .if1 .left) (c .if2 .left)
 

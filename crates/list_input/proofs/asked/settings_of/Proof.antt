@@ -1,32 +1,25 @@
+-- `settings_of` is `settingsOf`, field by field. Assumes nothing.
 use Rattle.list_input.specs.Asked.{settingsOf}
 use mathlib.Core.Path.{refl}
 use borrow.Author.Needs.{needs}
 use Rattle.list_input.proofs.asked.settings_of.Statement.{statement}
 use Rattle.list_input.proofs.asked.settings_of.Tie as tie
-use Rattle.list_input.proofs.asked.settings_of.Reads as reads
-use Rattle.list_input.proofs.asked.settings_of.Lts as lts
 
--- src/asked.rt:17:12
 shared-slice-read-t3 : tie.Need-shared-slice-read-t3
 shared-slice-read-t3 c = search needs
 
--- src/asked.rt:18:25
 shared-slice-read-t5 : tie.Need-shared-slice-read-t5
 shared-slice-read-t5 c = search needs
 
--- src/asked.rt:19:13
 shared-slice-read-t7 : tie.Need-shared-slice-read-t7
 shared-slice-read-t7 c = search needs
 
--- src/asked.rt:20:13
 shared-slice-read-t9 : tie.Need-shared-slice-read-t9
 shared-slice-read-t9 c = search needs
 
--- src/asked.rt:21:18
 shared-slice-read-t11 : tie.Need-shared-slice-read-t11
 shared-slice-read-t11 c = search needs
 
--- src/asked.rt:12:1
 returns : tie.Need-returns
 unfolding settingsOf
 returns c = refl

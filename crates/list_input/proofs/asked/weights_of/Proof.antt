@@ -1,16 +1,14 @@
+-- `weights_of` reads the seven weights one by one. Assumes nothing.
 use Rattle.list_input.specs.Asked.{weightsOf}
 use mir.ValLaws.{toZ-ofZ}
 use mir.Val.{SFits, toZ, ofZ}
 use mir.Syntax.{w64}
 use lib.IntN.{ℤ}
-use mathlib.Core.List.{List, [], _∷_}
+use mathlib.Core.List.{[], _∷_}
 use mathlib.Core.Path.{_≡_, _∙_}
 use borrow.Author.Needs.{needs}
 use Rattle.list_input.proofs.asked.weights_of.Statement.{statement}
 use Rattle.list_input.proofs.asked.weights_of.Tie as tie
-use Rattle.list_input.proofs.asked.weights_of.Reads as reads
-use Rattle.list_input.proofs.asked.weights_of.Lts as lts
-use Rattle.list_input.proofs.asked.weight_of.Reads as weight-of-reads
 
 back : (z w : ℤ) → SFits w64 z → z ≡ w → toZ w64 (ofZ w64 z) ≡ w
 back z w f e = toZ-ofZ w64 z f ∙ e
@@ -19,63 +17,48 @@ seven : (a b c d e f g s t u v w x y : ℤ) → a ≡ s → b ≡ t → c ≡ u 
     → a ∷ b ∷ c ∷ d ∷ e ∷ f ∷ g ∷ [] ≡ s ∷ t ∷ u ∷ v ∷ w ∷ x ∷ y ∷ []
 seven a b c d e f g s t u v w x y i j k l m n o = cc
 
--- src/asked.rt:50:19
 shared-slice-read-weight-of : tie.Need-shared-slice-read-weight-of
 shared-slice-read-weight-of c = search needs
 
--- src/asked.rt:50:9
 weight-of-requires : tie.Need-weight-of-requires
 weight-of-requires c κs = search needs
 
--- src/asked.rt:51:19
 shared-slice-read-weight-of-2 : tie.Need-shared-slice-read-weight-of-2
 shared-slice-read-weight-of-2 c = search needs
 
--- src/asked.rt:51:9
 weight-of-requires-2 : tie.Need-weight-of-requires-2
 weight-of-requires-2 c κs = search needs
 
--- src/asked.rt:52:19
 shared-slice-read-weight-of-3 : tie.Need-shared-slice-read-weight-of-3
 shared-slice-read-weight-of-3 c = search needs
 
--- src/asked.rt:52:9
 weight-of-requires-3 : tie.Need-weight-of-requires-3
 weight-of-requires-3 c κs = search needs
 
--- src/asked.rt:53:19
 shared-slice-read-weight-of-4 : tie.Need-shared-slice-read-weight-of-4
 shared-slice-read-weight-of-4 c = search needs
 
--- src/asked.rt:53:9
 weight-of-requires-4 : tie.Need-weight-of-requires-4
 weight-of-requires-4 c κs = search needs
 
--- src/asked.rt:54:19
 shared-slice-read-weight-of-5 : tie.Need-shared-slice-read-weight-of-5
 shared-slice-read-weight-of-5 c = search needs
 
--- src/asked.rt:54:9
 weight-of-requires-5 : tie.Need-weight-of-requires-5
 weight-of-requires-5 c κs = search needs
 
--- src/asked.rt:55:19
 shared-slice-read-weight-of-6 : tie.Need-shared-slice-read-weight-of-6
 shared-slice-read-weight-of-6 c = search needs
 
--- src/asked.rt:55:9
 weight-of-requires-6 : tie.Need-weight-of-requires-6
 weight-of-requires-6 c κs = search needs
 
--- src/asked.rt:56:19
 shared-slice-read-weight-of-7 : tie.Need-shared-slice-read-weight-of-7
 shared-slice-read-weight-of-7 c = search needs
 
--- src/asked.rt:56:9
 weight-of-requires-7 : tie.Need-weight-of-requires-7
 weight-of-requires-7 c κs = search needs
 
--- src/asked.rt:45:1
 returns : tie.Need-returns
 unfolding weightsOf
 returns c =

@@ -1,26 +1,21 @@
+-- `form_ends` is `formEnds`, test by test. Assumes nothing.
 use Rattle.list_input.specs.Scan.{formEnds}
 use borrow.Author.Tests.{lt-leb, le-leb, ne-eqb, eq-eqb}
 use Rattle.list_input.proofs.numbers.form_ends.Statement.{statement}
 use Rattle.list_input.proofs.numbers.form_ends.Tie as tie
-use Rattle.list_input.proofs.numbers.form_ends.Reads as reads
-use Rattle.list_input.proofs.numbers.form_ends.Lts as lts
 
--- src/numbers.rt:94:9
 returns : tie.Need-returns
 unfolding formEnds
 returns c = simp (lt-leb _ _ (c .if1 .taken))
 
--- src/numbers.rt:97:9
 returns-2 : tie.Need-returns-2
 unfolding formEnds
 returns-2 c = simp (le-leb _ _ (c .before .before .if1 .left), ne-eqb _ _ (c .if2 .taken))
 
--- src/numbers.rt:100:9
 returns-3 : tie.Need-returns-3
 unfolding formEnds
 returns-3 c = simp (le-leb _ _ (c .before .before .before .before .if1 .left), eq-eqb _ _ (c .before .before .if2 .left), ne-eqb _ _ (c .if3 .taken))
 
--- src/numbers.rt:90:1
 returns-4 : tie.Need-returns-4
 unfolding formEnds
 returns-4 c = simp (le-leb _ _ (c .before .before .before .before .if1 .left), eq-eqb _ _ (c .before .before .if2 .left), eq-eqb _ _ (c .if3 .left))

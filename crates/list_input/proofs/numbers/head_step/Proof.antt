@@ -1,30 +1,23 @@
+-- `head_step` is `headStep`, at the last number of the head and before it. Assumes nothing.
 use Rattle.list_input.specs.Scan.{headStep}
 use borrow.Author.Tests.{ne-eqb, eq-eqb}
 use borrow.Author.Needs.{needs}
 use Rattle.list_input.proofs.numbers.head_step.Statement.{statement}
 use Rattle.list_input.proofs.numbers.head_step.Tie as tie
-use Rattle.list_input.proofs.numbers.head_step.Reads as reads
-use Rattle.list_input.proofs.numbers.head_step.Lts as lts
-use Rattle.list_input.proofs.numbers.still_fine.Reads as still-fine-reads
 
--- src/numbers.rt:27:9
 still-fine-requires : tie.Need-still-fine-requires
 still-fine-requires c κs = search needs
 
--- src/numbers.rt:30:19
 add-t6 : tie.Need-add-t6
 add-t6 c = search needs
 
--- src/numbers.rt:29:9
 returns : tie.Need-returns
 unfolding headStep
 returns c = simp (c .before .still-fine .ensures, eq-eqb _ _ (c .if1 .taken))
 
--- src/numbers.rt:37:15
 add-t7 : tie.Need-add-t7
 add-t7 c = search needs
 
--- src/numbers.rt:22:1
 returns-2 : tie.Need-returns-2
 unfolding headStep
 returns-2 c = simp (c .before .still-fine .ensures, ne-eqb _ _ (c .if1 .left))

@@ -1,3 +1,5 @@
+-- `feed` takes bytes as `fedScan` and `fedNumbers` say: feeding the rest from the present state gives at each turn what feeding all of
+-- them gives. Assumes nothing.
 use Rattle.list_input.specs.ScanLaws.{fed-end, fed-step, numbers-end, numbers-step}
 use Rattle.list_input.specs.Scan.{fedScan, fedNumbers}
 use lib.ListN.{length, drop}
@@ -7,11 +9,6 @@ use native.Mathlib.Omega.{arith}
 use Prim.Native.Nat.{_-_}
 use Rattle.list_input.proofs.stream.feed.Statement.{statement}
 use Rattle.list_input.proofs.stream.feed.Tie as tie
-use Rattle.list_input.proofs.stream.feed.Reads as reads
-use Rattle.list_input.proofs.stream.feed.Lts as lts
-use Rattle.house_numbers.proofs.grow.Reads as grow-reads
-use Rattle.list_input.proofs.stream.scan_step.Reads as scan-step-reads
-use Rattle.list_input.proofs.stream.store_step.Reads as store-step-reads
 
 abbrev Inv-loop : tie.InvT-loop
 Inv-loop numbers₀ chunk now₀ i₀ numbers now i = (fedScan now (drop i chunk) ≡ fedScan now₀ chunk) × (fedNumbers now numbers (drop i chunk) ≡ fedNumbers now₀ numbers₀ chunk)
@@ -19,43 +16,35 @@ Inv-loop numbers₀ chunk now₀ i₀ numbers now i = (fedScan now (drop i chunk
 abbrev μ-loop : tie.MeasureT-loop
 μ-loop numbers₀ chunk now₀ i₀ numbers now i = length chunk - i
 
--- src/stream.rt:93:5
 loop-holds : tie.Need-loop-holds Inv-loop μ-loop
 loop-holds c = (refl, refl)
 
--- src/stream.rt:94:36
 shared-slice-read-grow : tie.Need-shared-slice-read-grow Inv-loop μ-loop
 shared-slice-read-grow c = omega arith
 
--- src/stream.rt:94:13
 grow-requires : tie.Need-grow-requires Inv-loop μ-loop
 grow-requires c κs = search needs
 
--- src/stream.rt:95:9
 store-step-requires : tie.Need-store-step-requires Inv-loop μ-loop
 store-step-requires c κs = search needs
 
--- src/stream.rt:96:9
 scan-step-requires : tie.Need-scan-step-requires Inv-loop μ-loop
 scan-step-requires c κs = search needs
 
--- src/stream.rt:97:9
 add-i : tie.Need-add-i Inv-loop μ-loop
 add-i c = omega arith
 
--- src/stream.rt:93:5
 loop-less : tie.Need-loop-less Inv-loop μ-loop
 loop-less c = omega arith
 
--- src/stream.rt:93:5
 loop-again : tie.Need-loop-again Inv-loop μ-loop
 loop-again c =
     let l = c .before .before .before .before .before .before .loop in
-    let chunk = c .before .before .before .before .before .before .before .before .args .chunk .now in
-    (fed-step (l .now) chunk (l .i) (c .before .before .before .before .before .loop-test .taken) _ (c .before .before .before .grow .ensures) _ (c .scan-step .ensures) ∙ l .inv .0,
-    numbers-step (l .now) chunk (l .i) (c .before .before .before .before .before .loop-test .taken) _ (c .before .before .before .grow .ensures) _ (c .scan-step .ensures) (l .numbers) _ (c .before .store-step .ensures) ∙ l .inv .1)
+    let chunk = c .before .before .before .before .before .before .before .before .args .chunk .now in (
+      fed-step (l .now) chunk (l .i) (c .before .before .before .before .before .loop-test .taken) _ (c .before .before .before .grow .ensures) _ (c .scan-step .ensures) ∙ l .inv .0,
+      numbers-step (l .now) chunk (l .i) (c .before .before .before .before .before .loop-test .taken) _ (c .before .before .before .grow .ensures) _ (c .scan-step .ensures) (l .numbers) _ (c .before .store-step .ensures) ∙ l .inv .1,
+    )
 
--- src/stream.rt:87:1
 returns : tie.Need-returns Inv-loop μ-loop
 returns c =
     let l = c .before .loop in

@@ -1,23 +1,18 @@
+-- `scan_ends` is `scanEnds`: no number begun, and the form at its end. Assumes nothing.
 use Rattle.list_input.specs.Scan.{scanEnds}
 use borrow.Author.Tests.{eq-eqb, ne-eqb}
 use mathlib.Core.Path.{_∙_}
 use borrow.Author.Needs.{needs}
 use Rattle.list_input.proofs.stream.scan_ends.Statement.{statement}
 use Rattle.list_input.proofs.stream.scan_ends.Tie as tie
-use Rattle.list_input.proofs.stream.scan_ends.Reads as reads
-use Rattle.list_input.proofs.stream.scan_ends.Lts as lts
-use Rattle.list_input.proofs.numbers.form_ends.Reads as form-ends-reads
 
--- src/stream.rt:108:9
 returns : tie.Need-returns
 unfolding scanEnds
 returns c = simp (ne-eqb _ _ (c .if1 .taken))
 
--- src/stream.rt:110:5
 form-ends-requires : tie.Need-form-ends-requires
 form-ends-requires c κs = search needs
 
--- src/stream.rt:103:1
 returns-2 : tie.Need-returns-2
 unfolding scanEnds
 returns-2 c = c .form-ends .ensures ∙ (simp (eq-eqb _ _ (c .before .if1 .left)))

@@ -1,20 +1,16 @@
+-- `store_step` is `storeBy`, for each thing that a byte can make of a part. Assumes nothing.
 use Rattle.list_input.specs.Scan.{storeBy}
 use borrow.Author.Tests.{lt-ltb, le-ltb}
 use borrow.Author.Needs.{needs}
 use Rattle.list_input.proofs.stream.store_step.Statement.{statement}
 use Rattle.list_input.proofs.stream.store_step.Tie as tie
-use Rattle.list_input.proofs.stream.store_step.Reads as reads
-use Rattle.list_input.proofs.stream.store_step.Lts as lts
 
--- src/stream.rt:80:22
 enum-known-grown : tie.Need-enum-known-grown
 enum-known-grown c = search needs
 
--- src/stream.rt:82:17
 mul-numbers : tie.Need-mul-numbers
 mul-numbers c = search needs
 
--- src/stream.rt:82:17
 element-write-numbers : tie.Need-element-write-numbers
 element-write-numbers c = search needs
 
@@ -24,22 +20,18 @@ enum-told c = search needs
 enum-told-2 : tie.Need-enum-told-2
 enum-told-2 c = search needs
 
--- src/stream.rt:76:1
 returns : tie.Need-returns
 unfolding storeBy
 returns c = simp (c .before .before .grown .given .1, lt-ltb _ _ (c .if1 .taken))
 
--- src/stream.rt:76:1
 returns-2 : tie.Need-returns-2
 unfolding storeBy
 returns-2 c = simp (c .before .before .grown .given .1, le-ltb _ _ (c .if1 .left))
 
--- src/stream.rt:76:1
 returns-3 : tie.Need-returns-3
 unfolding storeBy
 returns-3 c = simp (c .enum-told .given .1)
 
--- src/stream.rt:76:1
 returns-4 : tie.Need-returns-4
 unfolding storeBy
 returns-4 c = simp (c .enum-told2 .given .1)
