@@ -1,3 +1,5 @@
 pub mod Every
 pub mod Weights
 pub mod Sizes
+pub mod Stray
+pub mod Cascade

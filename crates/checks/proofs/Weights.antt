@@ -8,7 +8,7 @@ use mir.Syntax.{w64}
 use mir.Val.{toZ, ofZ, SFits}
 use mir.Facts.{toZ-ofZ}
 use Rattle.rules.specs.Numbers.{moderate}
-use Rattle.checks.proofs.Every.{and-false-left, and-false-right, and-true}
+use Rattle.checks.proofs.Every.{never}
 
 module _ (z : ℤ) (f : mag z < 2 ^ 63) where
   back : toZ w64 (ofZ w64 z) ≡ z
@@ -16,12 +16,12 @@ module _ (z : ℤ) (f : mag z < 2 ^ 63) where
 
   pub too-high : ltZ (pos 4294967296) (toZ w64 (ofZ w64 z)) ≡ true → moderate z ≡ false
   unfolding moderate
-  too-high t = and-false-left (not (ltZ (pos 4294967296) z)) (not (ltZ z (negsuc 4294967295))) (ap not (rw back at t))
+  too-high t = rw (rw back at t) refl
 
   pub too-low : ltZ (toZ w64 (ofZ w64 z)) (negsuc 4294967295) ≡ true → moderate z ≡ false
   unfolding moderate
-  too-low t = and-false-right (not (ltZ (pos 4294967296) z)) (not (ltZ z (negsuc 4294967295))) (ap not (rw back at t))
+  too-low t = rw (rw back at t) (never (not (ltZ (pos 4294967296) z)))
 
   pub within : ltZ (pos 4294967296) (toZ w64 (ofZ w64 z)) ≡ false → ltZ (toZ w64 (ofZ w64 z)) (negsuc 4294967295) ≡ false → moderate z ≡ true
   unfolding moderate
-  within a b = and-true (not (ltZ (pos 4294967296) z)) (not (ltZ z (negsuc 4294967295))) (ap not (rw back at a)) (ap not (rw back at b))
+  within a b = rw (rw back at a, rw back at b) refl

@@ -1,1 +1,3 @@
 pub mod Largest
+pub mod Homes
+pub mod Verdicts

@@ -1,23 +1,18 @@
 -- What the checks leave, and that the records of specs/Good are exactly that: each field is the other way round of a part of a line. Assumes nothing.
-use mathlib.Core.Path.{_≡_, refl, sym, ap, _∙_, subst}
-use mathlib.Core.Logic.{_⊎_, inl, inr, _≢_}
-use mathlib.Core.Bool.{Bool, true, false, not, cond, _&&_, _||_}
-use mathlib.Core.List.{List, [], _∷_, _++_, List·Memᴰ}
-use Prim.Native.Nat.{ℕ, zero, suc, _+_, _-_, _*_, _/_, _%_, _^_, _<_, _≤_}
-use native.Mathlib.Nat.{le-refl, le-trans, eq-or-lt-of-le}
-use native.Mathlib.Numerals.{add-one}
+use mathlib.Core.Path.{_≡_, _∙_}
+use mathlib.Core.Logic.{_≢_}
+use mathlib.Core.Bool.{not}
+use mathlib.Core.List.{[], _∷_}
+use Prim.Native.Nat.{ℕ, _*_, _%_, _^_, _≤_}
 use native.Mathlib.Omega.{arith}
-use lib.Dec.{T, T-not, leb, ltb, eqb, eqb→eq, leb→le, le→leb, nleb→lt, nltb→le}
+use lib.Dec.{T, ltb, eqb, eqb→eq, nleb→lt, nltb→le}
 use lib.Arith.{le→nltb, lt→nleb}
-use lib.ListN.{length, getD}
 use Rattle.rules.specs.declared.Settings.{Settings}
-use Rattle.rules.specs.Lists.{below, elem, every}
-use Rattle.rules.specs.Geometry.{bucketOf, perBucket, entries, workWords}
-use Rattle.rules.specs.Order.{Input, keysOf, sizeOf}
-use Rattle.rules.specs.Numbers.{Line, Lent, firstOf, line, lookupLines, outside, line1, line2, line3, line4, line5, line6, line7, linesTo6, linesTo7}
+use Rattle.rules.specs.Geometry.{perBucket}
+use Rattle.rules.specs.Numbers.{firstOf, line, lookupLines, outside, line1, line2, line3, line4, line5, line6, line7, linesTo6, linesTo7}
 use Rattle.rules.specs.Good.{Usable, Good}
-use Rattle.rules.proofs.Tests.{split, not-or, not-or-left, not-or-right, of-not-not, not-not, neq, neq→neqb, eq→eqb, elem-mem}
-use Rattle.rules.proofs.Lines.{None, Numbered, none-zero, first-none, first-append-none, first-append-zero}
+use Rattle.rules.proofs.Tests.{not-or, not-or-left, not-or-right, of-not-not, not-not, neq, neq→neqb, eq→eqb}
+use Rattle.rules.proofs.Lines.{Numbered, none-zero, first-none, first-append-none, first-append-zero}
 
 -- ---- settings
 

@@ -1,16 +1,16 @@
 -- How often a number stands in a list. Assumes nothing.
-use mathlib.Core.Path.{_≡_, refl, sym, ap, _∙_, subst}
-use mathlib.Core.Logic.{_⊎_, inl, inr, _≢_}
-use mathlib.Core.Bool.{Bool, true, false, not, cond, _&&_, _||_}
-use mathlib.Core.List.{List, [], _∷_, _++_, List·Memᴰ, List·Memᴰ·head, List·Memᴰ·tail}
-use Prim.Native.Nat.{ℕ, zero, suc, _+_, _*_, _<_, _≤_}
-use native.Mathlib.Nat.{add-zero, zero-add, add-assoc}
+use mathlib.Core.Path.{_≡_, refl, sym, ap}
+use mathlib.Core.Logic.{_⊎_, inl, inr}
+use mathlib.Core.Bool.{Bool, true, false, not, cond}
+use mathlib.Core.List.{List, [], _∷_, _++_}
+use Prim.Native.Nat.{ℕ, zero, suc, _+_, _<_, _≤_}
+use native.Mathlib.Nat.{zero-add, le-of-suc-le-suc, not-suc-le-zero}
 use native.Mathlib.Omega.{arith}
-use lib.Dec.{T, T-not, not-T, eqb, ltb, leb, eqb→eq, eqb-refl, ltb→lt, nltb→le, leb→le, nleb→lt, lt→ltb, le→leb}
-use lib.Arith.{le→nltb, lt→nleb}
-use lib.ListN.{length}
+use lib.Dec.{T, T-not, not-T, eqb, eqb→eq, eqb-refl}
+use lib.ListN.{length, getD, take, drop}
+use lib.Seq.{split-at}
 use Rattle.rules.specs.Lists.{countFrom, below, elem, count, remove, indicator, keep, filter}
-use Rattle.rules.proofs.Tests.{split, is-true, is-false, of-true, of-false, or-cases, or-left, or-right, not-or-left, not-or-right, not-or, and-both, not-and-left, not-and-right, neq, eq→eqb, neq→neqb, mem-filter, elem-mem}
+use Rattle.rules.proofs.Tests.{split, is-true, is-false, or-cases, or-left, or-right, not-or-left, not-or-right, neq, neq→neqb, mem-filter, elem-mem}
 
 pub ind-true : (b : Bool) → T b → indicator b ≡ 1
 ind-true true t = refl
@@ -105,3 +105,24 @@ count-below-out x n h = count-from-high x 0 n (omega arith)
 pub length-from : (i n : ℕ) → length (countFrom i n) ≡ n
 length-from i zero = refl
 length-from i (suc n) = ap suc (length-from (suc i) n)
+
+-- ---- at most once each, and below m
+
+abbrev pub Once : List ℕ → Type 0
+Once xs = (x : ℕ) → count x xs ≤ 1
+
+abbrev pub Under : ℕ → List ℕ → Type 0
+Under m xs = (x : ℕ) → T (elem x xs) → x < m
+
+-- an entry is an element, and where nothing stands twice it does not stand before its place
+pub getD-elem : (xs : List ℕ) (k : ℕ) → k < length xs → T (elem (getD xs k 0) xs)
+getD-elem [] k h = absurd (not-suc-le-zero h)
+getD-elem (x ∷ xs) zero h = or-left (eqb x x) (elem x xs) (eqb-refl x)
+getD-elem (x ∷ xs) (suc k) h = or-right (eqb (getD xs k 0) x) (elem (getD xs k 0) xs) (getD-elem xs k (le-of-suc-le-suc h))
+
+pub once-fresh : (xs : List ℕ) → Once xs → (k : ℕ) → k < length xs → count (getD xs k 0) (take k xs) ≡ 0
+once-fresh xs once k h =
+    let b : ℕ = getD xs k 0 in
+    let s = ap (count b) (split-at xs k 0 h) in
+    let one = ind-true (eqb b b) (eqb-refl b) in
+    omega (arith, once b, count-append b (take k xs) (b ∷ drop (suc k) xs))

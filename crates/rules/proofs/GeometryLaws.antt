@@ -1,18 +1,17 @@
 -- Rule G. The slice length is a power of two, at most m; so there is a slice, a hash's slice is below their number and its position below m. The ring
 -- length is a power of two, at most R, and n strides make a slice. A bucket's hashes lie in the slices from first(b) to first(b) + p + 1, so each
 -- position has an entry in the table. Assumes nothing.
-use mathlib.Core.Path.{_≡_, refl, sym, ap, _∙_, subst}
-use Prim.Native.Nat.{ℕ, zero, suc, _+_, _-_, _*_, _/_, _%_, _^_, _<_, _≤_, min, max}
-use native.Mathlib.Nat.{le-of-suc-le-suc, le-trans, min-le-left, min-le-right, mod-lt, div-lt-iff-lt-mul, mul-lt-mul-of-pos-left, mul-comm, mul-div-cancel, le-of-mul-le-mul-right, lt-of-mul-lt-mul-right, mul-le-mul-left, mul-le-mul-right}
+use mathlib.Core.Path.{_≡_, refl, sym, ap, _∙_}
+use Prim.Native.Nat.{ℕ, zero, suc, _+_, _-_, _*_, _/_, _%_, _^_, _<_, _≤_, min}
+use native.Mathlib.Nat.{le-of-suc-le-suc, le-trans, min-le-left, mod-lt, div-lt-iff-lt-mul, mul-lt-mul-of-pos-left, mul-comm, le-of-mul-le-mul-right, lt-of-mul-lt-mul-right, mul-le-mul-left, mul-le-mul-right}
 use native.Mathlib.Omega.{arith}
-use lib.Dec.{lit<, lit≤}
-use lib.Pow.{pow-pos, pow-mono, pow-add}
+use lib.Dec.{lit<}
+use lib.Pow.{pow-pos, pow-mono}
 use Rattle.integers.specs.Power.{logUp, leastPower}
 use Rattle.integers.specs.PowerLaws.{logUp-pow, min-leastPower, leastPower-tight}
 use Rattle.integers.specs.Division.{div-bounds, div-mono, ceil-bounds, pow-split, pow-div}
 use Rattle.rules.specs.declared.Settings.{Settings}
-use Rattle.rules.specs.Geometry.{sliceLen, logLen, slices, scale, layouts, stride, ringLen, rotations, bucketOf, sliceOf, offsetOf, layoutOffset, position, first, quotient, perBucket, entries, workWords}
-use Rattle.rules.specs.Good.{Good, Usable}
+use Rattle.rules.specs.Geometry.{sliceLen, logLen, slices, scale, layouts, stride, ringLen, rotations, bucketOf, sliceOf, layoutOffset, position, first, quotient, perBucket, entries}
 
 -- ---- lengths
 
@@ -76,7 +75,7 @@ module _ (s : Settings) where
 
   pub stride-le : stride s ≤ logLen s
   unfolding stride
-  stride-le = min-le-right (s .ll + scale s) (logLen s)
+  stride-le = omega arith
 
   pub stride-high : s .«log2_slice_len» ≤ 16 → stride s ≤ 16
   stride-high h = omega (arith, stride-le, logLen-le)

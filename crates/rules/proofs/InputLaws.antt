@@ -1,24 +1,23 @@
 -- An input passes 1 to 12 exactly where it is `Sound`, and with what is lent passes 1 to 13 exactly where it is `Passed`. Assumes nothing.
-use mathlib.Core.Path.{_≡_, refl, sym, ap, _∙_, subst}
-use mathlib.Core.Logic.{_⊎_, inl, inr, _≢_}
-use mathlib.Core.Bool.{Bool, true, false, not, cond, _&&_, _||_}
-use mathlib.Core.List.{List, [], _∷_, _++_, List·Memᴰ}
-use Prim.Native.Nat.{ℕ, zero, suc, _+_, _-_, _*_, _/_, _%_, _^_, _<_, _≤_}
+use mathlib.Core.Path.{_≡_, _∙_}
+use mathlib.Core.Logic.{_⊎_, inl, inr}
+use mathlib.Core.Bool.{Bool, true, not, _||_}
+use mathlib.Core.List.{List, [], _∷_}
+use Prim.Native.Nat.{ℕ, zero, suc, _+_, _-_, _^_, _<_, _≤_}
 use native.Mathlib.Nat.{le-refl, le-trans, eq-or-lt-of-le}
 use native.Mathlib.Numerals.{add-one}
 use native.Mathlib.Omega.{arith}
-use lib.Dec.{T, leb, ltb, eqb, eqb→eq, leb→le, le→leb, nltb→le}
+use lib.Dec.{T, ltb, eqb, eqb→eq, leb→le, le→leb, nltb→le}
 use lib.Arith.{le→nltb}
 use lib.IntN as Int
 use lib.IntN.{ℤ, natAbs}
-use lib.Signed.{ltZ}
 use lib.ListN.{length, getD}
-use Rattle.rules.specs.Lists.{below, elem, every}
+use Rattle.rules.specs.Lists.{below, every}
 use Rattle.rules.specs.Geometry.{bucketOf, entries, workWords}
 use Rattle.rules.specs.Order.{Input, keysOf, sizeOf}
-use Rattle.rules.specs.Numbers.{Line, Lent, firstOf, moderate, stepUp, rising, bitmapWords, largest, smallBucket, isHome, allHome, line8, line9, line10, line11, line12, line13, linesTo7, sweepLines}
-use Rattle.rules.specs.Good.{Good, Rising, Grouped, Moderate, Priced, Sound, Passed}
-use Rattle.rules.proofs.Tests.{and-left, and-right, and-both, not-or, not-or-left, not-or-right, of-not-not, not-not, eq→eqb, elem-mem, mem-elem}
+use Rattle.rules.specs.Numbers.{Lent, firstOf, moderate, stepUp, rising, bitmapWords, largest, smallBucket, isHome, allHome, line8, line9, line10, line11, line12, line13, linesTo7, sweepLines}
+use Rattle.rules.specs.Good.{Rising, Grouped, Moderate, Priced, Sound, Passed}
+use Rattle.rules.proofs.Tests.{and-left, and-both, not-or, not-or-left, not-or-right, of-not-not, not-not, eq→eqb, elem-mem, mem-elem}
 use Rattle.rules.proofs.Lines.{Numbered, none-zero, first-none, first-append-none, first-append-zero}
 use Rattle.rules.proofs.Ranges.{every-at, at-every, every-below, below-every, every-getD, getD-every}
 use Rattle.rules.proofs.CheckLaws.{numbered-7, passes-7, good-7}

@@ -1,16 +1,16 @@
 -- Orders as tests, and that `best` finds the first. Assumes nothing.
-use mathlib.Core.Path.{_≡_, refl, sym, ap, _∙_, subst}
+use mathlib.Core.Path.{_≡_, refl, subst}
 use mathlib.Core.Logic.{_⊎_, inl, inr}
-use mathlib.Core.Bool.{Bool, true, false, not, cond, _&&_, _||_}
+use mathlib.Core.Bool.{Bool, true, false, not, cond, _&&_}
 use mathlib.Core.List.{List, [], _∷_, List·Memᴰ, List·Memᴰ·head, List·Memᴰ·tail, List·Memᴰ·cases-cons, List·Memᴰ·not-nil}
-use Prim.Native.Nat.{ℕ, zero, suc, _+_, _<_, _≤_}
+use Prim.Native.Nat.{ℕ}
 use native.Mathlib.Omega.{arith}
-use lib.Dec.{T, T-not, not-T, ltb, ltb→lt, nltb→le}
+use lib.Dec.{T, T-not, ltb, ltb→lt, nltb→le}
 use lib.Arith.{le→nltb}
 use lib.IntN.{ℤ, pos, negsuc}
 use lib.Signed.{ltZ}
 use Rattle.rules.specs.Lists.{smaller, greater, thenBy, best}
-use Rattle.rules.proofs.Tests.{split, is-true, is-false, of-true, of-false, or-cases, not-or, not-or-left, not-or-right, and-left, and-right, not-and-left, not-and-right, not-and-cases, not-not, of-not-not}
+use Rattle.rules.proofs.Tests.{split, is-true, is-false, or-cases, not-or, not-or-left, not-or-right, and-left, and-right, not-and-left, not-and-right, not-and-cases, not-not, of-not-not}
 
 -- a strict order in which being level is transitive
 pub record Strict {A : Type 0} (f : A → A → Bool) : Type 0 where

@@ -1,14 +1,14 @@
 -- The numbers of a range, what is mapped over them, and tests that pass at each of them. Assumes nothing.
 use mathlib.Core.Path.{_≡_, refl, sym, ap, _∙_, subst}
 use mathlib.Core.Logic.{_⊎_, inl, inr}
-use mathlib.Core.Bool.{Bool, true, false, not, _&&_}
+use mathlib.Core.Bool.{Bool, not}
 use mathlib.Core.List.{List, [], _∷_, map, List·Memᴰ, List·Memᴰ·head, List·Memᴰ·tail, List·Memᴰ·cases-cons, List·Memᴰ·not-nil}
-use Prim.Native.Nat.{ℕ, zero, suc, _+_, _<_, _≤_}
+use Prim.Native.Nat.{ℕ, zero, suc, _+_, _<_}
 use native.Mathlib.Nat.{add-zero, zero-add, le-of-suc-le-suc, not-suc-le-zero}
 use native.Mathlib.Omega.{arith}
 use lib.Dec.{T, eqb, ltb, eqb→eq, ltb→lt, nltb→le}
 use lib.ListN.{length, getD, length-map}
-use Rattle.rules.specs.Lists.{below, countFrom, elem, count, every}
+use Rattle.rules.specs.Lists.{below, countFrom, elem, every}
 use Rattle.rules.proofs.Tests.{split, and-left, and-right, and-both, or-cases, elem-mem, mem-elem}
 use Rattle.rules.proofs.Counting.{count-elem, count-below-in, count-below-out, elem-count, length-from}
 

@@ -1,7 +1,7 @@
 -- The ring form of a position: rotation j of layout r moves a key j rows on and leaves its column. It holds because L·2^scale, what one rotation adds,
 -- is 2^t or a multiple of the slice length. So a seed's positions are those of its layout and of its rotation modulo n. Assumes nothing.
-use mathlib.Core.Path.{_≡_, refl, sym, ap, _∙_, subst, fun-ext}
-use Prim.Native.Nat.{ℕ, zero, suc, _+_, _-_, _*_, _/_, _%_, _^_, _<_, _≤_, min}
+use mathlib.Core.Path.{_≡_, refl, sym, ap, _∙_}
+use Prim.Native.Nat.{ℕ, zero, suc, _+_, _*_, _/_, _%_, _^_, _<_, _≤_}
 use native.Mathlib.Nat.{add-zero, add-suc, mod-lt, suc-mod, mod-add-mod, add-mod-mod, mod-self, mod-eq-of-lt, mul-div-cancel, mul-mod-left, div-add-mod', le-trans, le-refl, mul-le-mul-right}
 use native.Mathlib.Omega.{arith}
 use lib.Arith.{digits-div, digits-mod}

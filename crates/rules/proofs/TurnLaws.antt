@@ -1,16 +1,16 @@
 -- Rule W: the order of a range has each of its nonempty buckets once and nothing else, because a turn takes one of the untaken away; and at each
 -- turn the bucket taken is the one that the rule names. Assumes nothing.
-use mathlib.Core.Path.{_≡_, refl, sym, ap, _∙_, subst}
-use mathlib.Core.Logic.{_⊎_, inl, inr, _≢_}
-use mathlib.Core.Bool.{Bool, true, false, not, cond, _&&_, _||_}
-use mathlib.Core.List.{List, [], _∷_, _++_, List·Memᴰ, List·Memᴰ·head, List·Memᴰ·tail, List·Memᴰ·cases-cons, head-eq-of-cons-eq, tail-eq-of-cons-eq, nil≢cons}
-use Prim.Native.Nat.{ℕ, zero, suc, _+_, _-_, _*_, _<_, _≤_}
-use native.Mathlib.Nat.{le-refl, le-of-suc-le-suc, not-suc-le-zero}
+use mathlib.Core.Path.{_≡_, refl, ap, _∙_, subst}
+use mathlib.Core.Logic.{_⊎_, inl, inr}
+use mathlib.Core.Bool.{Bool, true, false, not, cond}
+use mathlib.Core.List.{List, [], _∷_, _++_, List·Memᴰ, List·Memᴰ·head, List·Memᴰ·tail, List·Memᴰ·cases-cons, head-eq-of-cons-eq, tail-eq-of-cons-eq}
+use Prim.Native.Nat.{ℕ, zero, suc, _+_, _-_, _<_, _≤_}
+use native.Mathlib.Nat.{le-refl, not-suc-le-zero}
 use native.Mathlib.Omega.{arith}
-use lib.Dec.{T, lt→ltb, ltb→lt, nltb→le, T-not, eqb, eqb→eq, eqb-refl, ltb, leb}
+use lib.Dec.{T, lt→ltb, ltb→lt, nltb→le, eqb, eqb→eq, eqb-refl, ltb}
 use lib.ListN.{length, length-append}
-use Rattle.rules.specs.Lists.{countFrom, between, elem, count, remove, indicator, keep, filter, best}
-use Rattle.rules.specs.Order.{Input, Tie, priority, sizeOf, goesFirst, hasKeys, inWindow, nonempty, turn, turns, order}
+use Rattle.rules.specs.Lists.{countFrom, between, elem, count, remove, keep, filter, best}
+use Rattle.rules.specs.Order.{Input, Tie, priority, goesFirst, hasKeys, inWindow, nonempty, turn, turns, order}
 use Rattle.rules.proofs.Tests.{split, is-true, is-false, or-cases, or-left, or-right, mem-elem, elem-mem, mem-filter, filter-mem}
 use Rattle.rules.proofs.Orders.{Strict, best-mem, best-top, strict-then, strict-smaller, strict-greater}
 use Rattle.rules.proofs.Counting.{ind-true, elem-count, count-elem, count-remove, length-remove, count-filter-in, count-filter-out, count-from-in, count-from-low, count-from-high}
@@ -89,6 +89,19 @@ module _ (tie : Tie) (i : Input) (lo hi : ℕ) where
   pub order-outside : (b : ℕ) → (b < lo) ⊎ (hi ≤ b) → count b (order tie i lo hi) ≡ 0
   order-outside b h = order-count b ∙ nonempty-outside i lo hi b h
 
+  -- what stands in the order is a bucket of the range with keys
+  pub order-keys : (b : ℕ) → T (elem b (order tie i lo hi)) → (lo ≤ b) × (b < hi) × T (hasKeys i b)
+  order-keys b t = go (split (ltb b lo)) (split (ltb b hi)) (split (hasKeys i b))
+    where
+      here : 1 ≤ count b (order tie i lo hi)
+      here = elem-count b (order tie i lo hi) t
+
+      go : T (ltb b lo) ⊎ T (not (ltb b lo)) → T (ltb b hi) ⊎ T (not (ltb b hi)) → T (hasKeys i b) ⊎ T (not (hasKeys i b)) → (lo ≤ b) × (b < hi) × T (hasKeys i b)
+      go (inl l) h k = absurd (let z = order-outside b (inl (ltb→lt b lo l)) in let y = here in omega arith)
+      go (inr l) (inl h) (inl k) = (nltb→le b lo l, ltb→lt b hi h, k)
+      go (inr l) (inl h) (inr k) = absurd (let z = order-empty b k in let y = here in omega arith)
+      go (inr l) (inr h) k = absurd (let z = order-outside b (inr (nltb→le b hi h)) in let y = here in omega arith)
+
   pub order-length : length (order tie i lo hi) ≡ length (nonempty i lo hi)
   unfolding order
   order-length = turns-length (goesFirst tie i) (length (nonempty i lo hi)) (nonempty i lo hi) (le-refl (length (nonempty i lo hi)))
@@ -108,7 +121,7 @@ module _ (tie : Tie) (i : Input) where
 
       narrow : (x ≡ o) ⊎ List·Memᴰ x rest → List·Memᴰ x (o ∷ window)
       narrow (inl e) = List·Memᴰ·head e
-      narrow (inr k) = List·Memᴰ·tail (filter-mem (inWindow o) rest k (lt→ltb x (o + 256) h))
+      narrow (inr k) = List·Memᴰ·tail (filter-mem (inWindow o) rest k (lt→ltb x _ (omega arith)))
 
 -- ---- rule W as the document has it: what holds of each bucket at its turn
 
@@ -190,11 +203,11 @@ module _ (before : ℕ → ℕ → Bool) (F : Strict before) where
 
       near : (b ≡ o) ⊎ List·Memᴰ b window → b < o + 256
       near (inl e) = omega (arith, e)
-      near (inr m) = ltb→lt b (o + 256) (mem-filter (inWindow o) rest m .1)
+      near (inr m) = omega (arith, ltb→lt b _ (mem-filter (inWindow o) rest m .1))
 
       narrow : (x : ℕ) → x < o + 256 → T (eqb x o) ⊎ T (elem x rest) → List·Memᴰ x (o ∷ window)
       narrow x l (inl e) = List·Memᴰ·head (eqb→eq x o e)
-      narrow x l (inr t) = List·Memᴰ·tail (filter-mem (inWindow o) rest (elem-mem x rest t) (lt→ltb x (o + 256) l))
+      narrow x l (inr t) = List·Memᴰ·tail (filter-mem (inWindow o) rest (elem-mem x rest t) (lt→ltb x _ (omega arith)))
 
   -- what is next after `pre` among the rest is next after c and `pre` among all
   later : (c : ℕ) (all pre : List ℕ) (b : ℕ) → T (elem c all) → Next before (remove c all) pre b → Next before all (c ∷ pre) b

@@ -1,17 +1,16 @@
 -- Rule W has one answer: a list that follows the rule is the order, because no two buckets of one window are level. Assumes nothing.
-use mathlib.Core.Path.{_≡_, refl, sym, ap, _∙_, subst}
-use mathlib.Core.Logic.{_⊎_, inl, inr, _≢_}
-use mathlib.Core.Bool.{Bool, true, false, not}
-use mathlib.Core.List.{List, [], _∷_, _++_, List·Memᴰ, List·Memᴰ·head, List·Memᴰ·tail, List·Memᴰ·cases-cons, cons≢nil}
-use Prim.Native.Nat.{ℕ, zero, suc, _+_, _*_, _%_, _<_, _≤_}
-use native.Mathlib.Nat.{le-refl, le-of-suc-le-suc, not-suc-le-zero}
-use native.Mathlib.Decide.{ℕ-discrete}
+use mathlib.Core.Path.{_≡_, refl, ap, _∙_, subst}
+use mathlib.Core.Logic.{inl, inr}
+use mathlib.Core.Bool.{Bool, not}
+use mathlib.Core.List.{List, [], _∷_, List·Memᴰ, List·Memᴰ·head, List·Memᴰ·tail, List·Memᴰ·cases-cons, cons≢nil}
+use Prim.Native.Nat.{ℕ, zero, suc, _+_, _<_, _≤_}
+use native.Mathlib.Nat.{le-refl, not-suc-le-zero}
 use native.Mathlib.Omega.{arith}
-use lib.Dec.{T, lt→ltb, ltb→lt, eqb, eqb→eq, eqb-refl, ltb}
+use lib.Dec.{T, lt→ltb, ltb→lt, eqb, eqb→eq, eqb-refl}
 use lib.ListN.{length}
-use Rattle.rules.specs.Lists.{below, elem, count, remove, indicator, filter, best, smaller, greater, thenBy}
+use Rattle.rules.specs.Lists.{elem, remove, filter}
 use Rattle.rules.specs.Order.{Input, Tie, byLowBits, inWindow, priority, goesFirst, nonempty, turn, turns, order}
-use Rattle.rules.proofs.Tests.{split, or-cases, mem-elem, elem-mem, mem-filter, filter-mem, neq}
+use Rattle.rules.proofs.Tests.{or-cases, mem-elem, elem-mem, mem-filter, filter-mem}
 use Rattle.rules.proofs.Orders.{Strict, best-is, strict-smaller, strict-greater, then-level, smaller-level}
 use Rattle.rules.proofs.Counting.{ind-true, elem-count, count-elem, length-remove}
 use Rattle.rules.proofs.TurnLaws.{Ascending, Untaken, Next, now, turn-elem, ascending-remove, ascending-nonempty, strict-order}
@@ -57,14 +56,14 @@ module _ (before : ℕ → ℕ → Bool) (F : Strict before) where
 
         inside : (x : ℕ) → Untaken (o ∷ rest) [] x → x < o + 256 → List·Memᴰ x (o ∷ window)
         inside x u l = elim (or-cases (eqb x o) (elem x rest) (count-elem x (o ∷ rest) u))
-            [ inl e ↦ List·Memᴰ·head (eqb→eq x o e) | inr t ↦ List·Memᴰ·tail (filter-mem (inWindow o) rest (elem-mem x rest t) (lt→ltb x (o + 256) l)) ]
+            [ inl e ↦ List·Memᴰ·head (eqb→eq x o e) | inr t ↦ List·Memᴰ·tail (filter-mem (inWindow o) rest (elem-mem x rest t) (lt→ltb x _ (omega arith))) ]
 
         left : (y : ℕ) → List·Memᴰ y (o ∷ window) → Untaken (o ∷ rest) [] y
         left y m = elim (List·Memᴰ·cases-cons m)
             [ inl e ↦ elem-count y (o ∷ rest) (mem-elem {ys = o ∷ rest} (List·Memᴰ·head e)) | inr k ↦ elem-count y (o ∷ rest) (mem-elem {ys = o ∷ rest} (List·Memᴰ·tail (mem-filter (inWindow o) rest k .0))) ]
 
         narrow : (y : ℕ) → List·Memᴰ y (o ∷ window) → y < o + 256
-        narrow y m = elim (List·Memᴰ·cases-cons m) [ inl e ↦ omega (arith, e) | inr k ↦ ltb→lt y (o + 256) (mem-filter (inWindow o) rest k .1) ]
+        narrow y m = elim (List·Memᴰ·cases-cons m) [ inl e ↦ omega (arith, e) | inr k ↦ omega (arith, ltb→lt y _ (mem-filter (inWindow o) rest k .1)) ]
 
         close : (y : ℕ) → List·Memᴰ y (o ∷ window) → y < n .o + 256
         close y m = omega (arith, same-o, narrow y m)
@@ -89,7 +88,7 @@ module _ (before : ℕ → ℕ → Bool) (F : Strict before) where
         (follows-one f (remove (turn before o rest) (o ∷ rest)) bs (omega (arith, length-remove (turn before o rest) (o ∷ rest) (turn-elem before o rest)))
         (ascending-remove (turn before o rest) (o ∷ rest) h) (subst (λ (c : ℕ). Follows before (remove c (o ∷ rest)) bs) e (n .1)))
 
-low-near : (x y : ℕ) → x < y + 256 → y < x + 256 → x % 1024 ≡ y % 1024 → x ≡ y
+low-near : (x y : ℕ) → x < y + 256 → y < x + 256 → byLowBits x ≡ byLowBits y → x ≡ y
 low-near x y h k e = omega arith
 
 -- the rule for ties keeps the buckets of a window apart, if it does so where the priorities are level

@@ -1,4 +1,4 @@
--- What is known of an input that the checks did not refuse: records of plain facts that a function or a law may ask for. proofs/CheckLaws shows that
+-- What is known of an input that the checks did not refuse: records of plain facts that a function or a law may ask for. CheckLaws and InputLaws show that
 -- each is exactly "none of its lines applies". Assumes nothing.
 use mathlib.Core.Path.{_≡_}
 use Prim.Native.Nat.{ℕ, _+_, _*_, _%_, _^_, _≤_, _<_}
@@ -78,7 +78,3 @@ pub record Passed (i : Input) (lent : Lent) : Type 0 where
   pub seeds : lent .seeds ≡ i .settings .buckets
   pub bitmap : lent .bitmap ≡ bitmapWords (i .settings .m)
   pub work : workWords (i .settings) (largest i) ≤ lent .work
-
--- each entry is a 64-bit number, as the entries of a lent slice of u64 are
-unfoldable pub Words : List ℕ → Type 0
-Words xs = (k : ℕ) → getD xs k 0 < 2 ^ 64

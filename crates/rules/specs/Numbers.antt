@@ -104,6 +104,10 @@ pub record Lent : Type 0 where
   pub bitmap : ℕ
   pub work : ℕ
 
+-- the same, from what a call is lent
+abbrev pub lentOf : (seeds bitmap work : List ℕ) → Lent
+lentOf seeds bitmap work = record { seeds = length seeds; bitmap = length bitmap; work = length work }
+
 -- ceil(m/64)
 abbrev pub bitmapWords : (m : ℕ) → ℕ
 bitmapWords m = (m + 63) / 64

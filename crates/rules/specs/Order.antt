@@ -18,6 +18,10 @@ pub record Input : Type 0 where
   pub begins : List ℕ
   pub table : List ℕ
 
+-- the same, put together from a call's arguments
+abbrev pub inputOf : Settings → (weights : List ℤ) → (hashes begins table : List ℕ) → Input
+inputOf s weights hashes begins table = record { settings = s; weights = weights; hashes = hashes; begins = begins; table = table }
+
 -- how many keys bucket b has: begins holds where each bucket's keys begin, and at last where they end
 unfoldable pub sizeOf : Input → (b : ℕ) → ℕ
 sizeOf i b = getD (i .begins) (b + 1) 0 - getD (i .begins) b 0

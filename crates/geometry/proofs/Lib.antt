@@ -1,0 +1,5 @@
+pub mod Assemble
+pub mod Sizes
+pub mod Places
+pub mod Halving
+pub mod Sizing

@@ -1,0 +1,4 @@
+pub mod House
+pub mod HouseLaws
+mod Walks
+mod Squares
