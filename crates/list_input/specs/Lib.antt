@@ -7,3 +7,4 @@ pub mod FormLaws
 pub mod Heard
 pub mod AskedLaws
 pub mod SplitLaws
+pub mod BeginsLaws
