@@ -8,3 +8,4 @@ pub mod Heard
 pub mod AskedLaws
 pub mod SplitLaws
 pub mod BeginsLaws
+pub mod Sheet

@@ -3,3 +3,4 @@ pub mod Text
 pub mod Writing
 pub mod DecimalLaws
 pub mod TextLaws
+pub mod Sheet
