@@ -1,0 +1,3 @@
+-- What the contracts of `heap` cite, and the laws behind them.
+pub mod Keys
+pub mod Ordered

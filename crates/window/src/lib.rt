@@ -1,0 +1,338 @@
+ghost use mathlib.Core.Path.{_≡_};
+ghost use mathlib.Core.Bool.{_&&_};
+ghost use mathlib.Core.List.{List};
+ghost use Prim.Native.Nat.{ℕ, _+_, _≤_, _<_, _^_, min};
+ghost use lib.Dec.{eqb};
+ghost use Rattle.rules.specs.Order.{Input};
+ghost use Rattle.heap.specs.Ordered.{Kept};
+ghost use Rattle.window.specs.Queues.{queuesOf};
+ghost use Rattle.window.specs.Changes.{Enterable, Entered, Choice, Out, Poppable, Popping};
+ghost use Rattle.window.specs.Window.{state, stateAt, Ranged, Window, Windowed, Full, Turned, Entering, Waiting, Filled};
+
+pub mod buckets;
+pub mod cyclic;
+pub mod queues;
+pub mod rule;
+
+// Whose turn it is: the window moves over the buckets of a range, and each turn takes the one that rule W names.
+// Its arrays are locals of the sweep, each lent by its own reference, so that nothing large is copied; what changes
+// at every turn is small and goes by value. `large` is an array and no part of lent work: its size is fixed, and a
+// heap of keys is signed where work is not.
+
+// Where the window stands: its oldest bucket, the next one to enter, the sizes below 64 that it has, and how many
+// buckets of 64 keys and more.
+pub struct View {
+    pub oldest: usize,
+    pub next: usize,
+    pub nonempty: u64,
+    pub large: usize,
+}
+
+// The bucket that is taken, and where the window stands then.
+pub struct Turn {
+    pub bucket: usize,
+    pub view: View,
+}
+
+// What the queues and the heap have: the sizes below 64, and how many buckets of 64 keys and more.
+pub struct Held {
+    pub nonempty: u64,
+    pub large: usize,
+}
+
+// A bucket that is taken, and what the queues and the heap have then.
+pub struct Popped {
+    pub bucket: usize,
+    pub held: Held,
+}
+
+// Whether the window has no bucket.
+pub fn is_empty(v: View) -> bool
+    ensures { λ r. ⌜ r ≡ (eqb (v .nonempty) 0 && eqb (v .large) 0) ⌝ }
+    ensures { λ r. ⌜ v .nonempty < 2 ^ 64 ⌝ }
+{
+    v.nonempty == 0 && v.large == 0
+}
+
+fn smaller(a: usize, b: usize) -> usize
+    ensures { λ r. ⌜ r ≡ min a b ⌝ }
+{
+    if a < b { a } else { b }
+}
+
+// Bucket `b`, of `size` keys, enters: the queue of its size, or the heap from 64 keys on. An empty bucket stays out.
+fn enter(
+    queues: &mut [[u8; 256]; 64],
+    heads: &[u8; 64],
+    lengths: &mut [u16; 64],
+    keys: &mut [i64; 64],
+    table: &[i64; 64],
+    set: &mut [u64; 16],
+    large: &mut [i64; 256],
+    on: u64,
+    n: usize,
+    b: usize,
+    size: usize,
+) -> Held
+    requires { ⌜ Enterable (now table) (queuesOf (now queues) (now heads) (now lengths) (now keys) on) (now set) (now large) n b size ⌝ }
+    ensures { λ r. ⌜ Entered (now (table .entry))
+        (queuesOf (now (queues .entry)) (now (heads .entry)) (now (lengths .entry)) (now (keys .entry)) on) (now (set .entry)) (now (large .entry)) n b size
+        (queuesOf (now (queues .exit)) (now (heads .entry)) (now (lengths .exit)) (now (keys .exit)) (r .nonempty)) (now (set .exit)) (now (large .exit)) (r .large) ⌝ }
+{
+    if size == 0 {
+        return Held {
+            nonempty: on,
+            large: n,
+        };
+    }
+    words::set_bit(set, b % 1024);
+    if size < 64 {
+        let now = queues::push(queues, heads, lengths, keys, table, on, b, size);
+        return Held {
+            nonempty: now,
+            large: n,
+        };
+    }
+    let w = rule::beyond(table[6], table[7], size);
+    let k = rule::key(w, b);
+    heap::put(large, n, k);
+    Held {
+        nonempty: on,
+        large: n + 1,
+    }
+}
+
+// The buckets from `view.next` on enter, up to 256 from the oldest one and below `hi`.
+fn fill(
+    queues: &mut [[u8; 256]; 64],
+    heads: &[u8; 64],
+    lengths: &mut [u16; 64],
+    keys: &mut [i64; 64],
+    table: &[i64; 64],
+    set: &mut [u64; 16],
+    large: &mut [i64; 256],
+    begins: &[u32],
+    hi: usize,
+    view: View,
+) -> View
+    requires { ⌜ Entering (now begins) (now table) hi (state (now queues) (now heads) (now lengths) (now keys) (now set) (now large) view) ⌝ }
+    ensures { λ r. ⌜ (r .oldest ≡ view .oldest) × (r .next ≡ min (view .oldest + 256) hi) ⌝ }
+    ensures { λ r. ⌜ ((i : Input) (lo k : ℕ) (rest : List ℕ)
+        → Ranged i (now (begins .entry)) (now (table .entry)) hi
+        → Window i lo hi k (state (now (queues .entry)) (now (heads .entry)) (now (lengths .entry)) (now (keys .entry)) (now (set .entry)) (now (large .entry)) view) rest
+        → Window i lo hi k (state (now (queues .exit)) (now (heads .entry)) (now (lengths .exit)) (now (keys .exit)) (now (set .exit)) (now (large .exit)) r) rest) ⌝ }
+{
+    let o = view.oldest;
+    let to = smaller(o + 256, hi);
+    let mut on = view.nonempty;
+    let mut n = view.large;
+    let mut b = view.next;
+    while b < to {
+        let size = groups::size_of(begins, b);
+        let held = enter(
+            queues,
+            heads,
+            lengths,
+            keys,
+            table,
+            set,
+            large,
+            on,
+            n,
+            b,
+            size,
+        );
+        on = held.nonempty;
+        n = held.large;
+        b += 1;
+    }
+    View {
+        oldest: o,
+        next: b,
+        nonempty: on,
+        large: n,
+    }
+}
+
+// The window reaches 256 buckets from its oldest one; an empty window moves to the next bucket with keys.
+pub fn refill(
+    queues: &mut [[u8; 256]; 64],
+    heads: &[u8; 64],
+    lengths: &mut [u16; 64],
+    keys: &mut [i64; 64],
+    table: &[i64; 64],
+    set: &mut [u64; 16],
+    large: &mut [i64; 256],
+    begins: &[u32],
+    hi: usize,
+    view: View,
+) -> View
+    requires { ⌜ Waiting (now begins) (now table) hi (state (now queues) (now heads) (now lengths) (now keys) (now set) (now large) view) ⌝ }
+    ensures { λ r. ⌜ ((i : Input) (lo k : ℕ)
+        → Ranged i (now (begins .entry)) (now (table .entry)) hi
+        → Windowed i lo hi k (state (now (queues .entry)) (now (heads .entry)) (now (lengths .entry)) (now (keys .entry)) (now (set .entry)) (now (large .entry)) view)
+        → Full i lo hi k (state (now (queues .exit)) (now (heads .entry)) (now (lengths .exit)) (now (keys .exit)) (now (set .exit)) (now (large .exit)) r)) ⌝ }
+{
+    if is_empty(view) {
+        let o = buckets::skip(begins, view.next, hi);
+        let moved = View {
+            oldest: o,
+            next: o,
+            nonempty: view.nonempty,
+            large: view.large,
+        };
+        return fill(
+            queues,
+            heads,
+            lengths,
+            keys,
+            table,
+            set,
+            large,
+            begins,
+            hi,
+            moved,
+        );
+    }
+    fill(
+        queues,
+        heads,
+        lengths,
+        keys,
+        table,
+        set,
+        large,
+        begins,
+        hi,
+        view,
+    )
+}
+
+// The size whose queue has the bucket of the greatest key, or 64 where the heap has it.
+fn whose(keys: &[i64; 64], nonempty: u64, large: &[i64; 256], n: usize) -> usize
+    requires { ⌜ (nonempty ≡ 0 → 0 < n) ⌝ }
+    requires { ⌜ Kept (now large) n ⌝ }
+    ensures { λ r. ⌜ Choice (now (keys .entry)) nonempty (now (large .entry)) n r ⌝ }
+{
+    if nonempty == 0 {
+        return 64;
+    }
+    let size = queues::top(keys, nonempty);
+    if n == 0 {
+        return size;
+    }
+    let k = keys[size];
+    let l = heap::greatest(large, n);
+    if k < l {
+        return 64;
+    }
+    size
+}
+
+// The heap's greatest key is taken out. The result is its bucket, from `oldest` on.
+fn pop_large(large: &mut [i64; 256], n: usize, oldest: usize) -> usize
+    requires { ⌜ Kept (now large) n ⌝ }
+    requires { ⌜ (0 < n) × (oldest ≤ 67108865) ⌝ }
+    ensures { λ r. ⌜ Out (now (large .entry)) n oldest r (now (large .exit)) ⌝ }
+{
+    let k = heap::pop(large, n);
+    let place = rule::place_of(k);
+    oldest + (place + (1024 - oldest % 1024)) % 1024
+}
+
+// The bucket of the greatest key is taken out.
+fn pop(
+    queues: &[[u8; 256]; 64],
+    heads: &mut [u8; 64],
+    lengths: &mut [u16; 64],
+    keys: &mut [i64; 64],
+    table: &[i64; 64],
+    large: &mut [i64; 256],
+    on: u64,
+    n: usize,
+    oldest: usize,
+) -> Popped
+    requires { ⌜ Poppable (now table) (queuesOf (now queues) (now heads) (now lengths) (now keys) on) (now large) n oldest ⌝ }
+    ensures { λ r. ⌜ Popping (now (table .entry))
+        (queuesOf (now (queues .entry)) (now (heads .entry)) (now (lengths .entry)) (now (keys .entry)) on) (now (large .entry)) n oldest (r .bucket)
+        (queuesOf (now (queues .entry)) (now (heads .exit)) (now (lengths .exit)) (now (keys .exit)) (r .held .nonempty)) (now (large .exit)) (r .held .large) ⌝ }
+{
+    let size = whose(keys, on, large, n);
+    if size == 64 {
+        let b = pop_large(large, n, oldest);
+        return Popped {
+            bucket: b,
+            held: Held {
+                nonempty: on,
+                large: n - 1,
+            },
+        };
+    }
+    let s = queues::shift(queues, heads, lengths, keys, table, on, oldest, size);
+    Popped {
+        bucket: s.bucket,
+        held: Held {
+            nonempty: s.nonempty,
+            large: n,
+        },
+    }
+}
+
+// The bucket that rule W names is taken.
+pub fn take(
+    queues: &[[u8; 256]; 64],
+    heads: &mut [u8; 64],
+    lengths: &mut [u16; 64],
+    keys: &mut [i64; 64],
+    table: &[i64; 64],
+    set: &mut [u64; 16],
+    large: &mut [i64; 256],
+    begins: &[u32],
+    hi: usize,
+    view: View,
+) -> Turn
+    requires { ⌜ Filled (now begins) (now table) hi (state (now queues) (now heads) (now lengths) (now keys) (now set) (now large) view) ⌝ }
+    requires { ⌜ (view .nonempty ≡ 0 → 0 < view .large) ⌝ }
+    ensures { λ r. ⌜ ((i : Input) (lo k : ℕ)
+        → Ranged i (now (begins .entry)) (now (table .entry)) hi
+        → Full i lo hi k (state (now (queues .entry)) (now (heads .entry)) (now (lengths .entry)) (now (keys .entry)) (now (set .entry)) (now (large .entry)) view)
+        → Turned i lo hi k (r .bucket) (state (now (queues .entry)) (now (heads .exit)) (now (lengths .exit)) (now (keys .exit)) (now (set .exit)) (now (large .exit)) (r .view))) ⌝ }
+{
+    let o = view.oldest;
+    let e = view.next;
+    let p = pop(
+        queues,
+        heads,
+        lengths,
+        keys,
+        table,
+        large,
+        view.nonempty,
+        view.large,
+        o,
+    );
+    let b = p.bucket;
+    let held = p.held;
+    words::clear_bit(set, b % 1024);
+    if b == o {
+        let next = cyclic::first_in(set, o + 1, e);
+        return Turn {
+            bucket: b,
+            view: View {
+                oldest: next,
+                next: e,
+                nonempty: held.nonempty,
+                large: held.large,
+            },
+        };
+    }
+    Turn {
+        bucket: b,
+        view: View {
+            oldest: o,
+            next: e,
+            nonempty: held.nonempty,
+            large: held.large,
+        },
+    }
+}

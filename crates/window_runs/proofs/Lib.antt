@@ -1,0 +1,3 @@
+-- The laws of `window_runs`.
+pub mod Begun
+pub mod Grown

@@ -1,0 +1,2 @@
+-- What the contracts of `window_runs` cite.
+pub mod Sized
