@@ -174,6 +174,11 @@ pub fn family_of(seed: u64, k: usize, m: usize, bucket_size: f64, setting: Setti
     Case { settings, bump: true, weights, begins, hashes }
 }
 
+/// The fewest buckets that check 7 allows, made odd.
+pub fn fewest_buckets(setting: Setting, m: usize) -> usize {
+    figures(&settings(setting, m, MOST_BUCKETS)).slices.div_ceil(4096) | 1
+}
+
 /// So many settings of any size in the domain, to ask about rule G alone.
 pub fn any_settings(seed: u64, count: usize) -> impl Iterator<Item = Settings> {
     let mut random = Random(seed);
@@ -184,8 +189,7 @@ pub fn any_settings(seed: u64, count: usize) -> impl Iterator<Item = Settings> {
         let other = random.below(near);
         let m = random.pick(&[near, near + 1, near - 1, other]).clamp(1, 1 << 27);
         // The fewest buckets that check 7 allows, the most, or any number between.
-        let slices = figures(&settings(setting, m, MOST_BUCKETS)).slices;
-        let fewest = slices.div_ceil(4096);
+        let fewest = fewest_buckets(setting, m);
         let any = 1usize << random.from_to(0, 26);
         let other = random.below(any);
         let buckets = random.pick(&[fewest, MOST_BUCKETS, any, other]).max(fewest) | 1;

@@ -3,6 +3,7 @@
 pub mod case;
 pub mod cases;
 pub mod domain;
+pub mod geometry;
 pub mod house;
 pub mod naive;
 pub mod named;

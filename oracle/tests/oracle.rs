@@ -4,8 +4,8 @@ use oracle::cases;
 use oracle::random::Random;
 use oracle::shapes::Met;
 use oracle::{
-    Answer, Case, Outcome, chunks, domain, figures, first_slices, log2_table, naive, outcome,
-    place_of, positions, sweep, text,
+    Answer, Case, Outcome, chunks, domain, figures, first_slices, geometry, log2_table, naive,
+    outcome, place_of, positions, sweep, text,
 };
 
 const SMALL: usize = 3000;
@@ -37,6 +37,28 @@ fn every_shape_and_setting_is_met() {
     for setting in cases::all_settings() {
         assert!(met.settings.contains_key(&setting), "no case has the setting {setting:?}");
     }
+}
+
+#[test]
+fn geometry_meets_every_setting_at_its_limits() {
+    let all = geometry::chosen(seed(), 1000);
+    for s in &all {
+        assert_eq!(domain::refused_settings(s), None, "{s:?}");
+    }
+    for (log2_slice_len, log2_layouts, seed_bits) in cases::all_settings() {
+        let of_setting: Vec<_> = all
+            .iter()
+            .filter(|s| {
+                (s.log2_slice_len, s.log2_layouts, s.seed_bits)
+                    == (log2_slice_len, log2_layouts, seed_bits)
+            })
+            .collect();
+        for (m, buckets) in [(1, 1), (1, 67_108_865), (1 << 27, 67_108_865)] {
+            assert!(of_setting.iter().any(|s| (s.m, s.buckets) == (m, buckets)), "{of_setting:?}");
+        }
+        assert!(of_setting.iter().any(|s| figures(s).slice_len == 1 << log2_slice_len));
+    }
+    assert!(all.iter().any(|s| figures(s).per_bucket == 4096));
 }
 
 #[test]

@@ -1,6 +1,6 @@
 -- The pass over the free rotations keeps the best at which no two keys meet: one rotation, the bits of a word, the words of a layout, the layouts.
 -- Assumes nothing.
-use mathlib.Core.Path.{_≡_, refl, sym, ap, _∙_}
+use mathlib.Core.Path.{_≡_, refl, sym, _∙_}
 use mathlib.Core.Logic.{_≢_, ⊎-elim}
 use mathlib.Core.Bool.{Bool, true, false, not}
 use mathlib.Core.List.{List}
@@ -21,14 +21,14 @@ use Rattle.rings.specs.Place.{Fitted}
 use Rattle.rings.specs.Parts.{part, part-at, length-part}
 use Rattle.best.specs.declared.Best.{Best}
 use Rattle.best.specs.Best.{nothing, better, bestFrom, bestOf}
-use Rattle.best.specs.BestLaws.{better-taken, better-not, of-none, of-more}
+use Rattle.best.specs.BestLaws.{better-taken, better-not, of-none}
 use Rattle.best.specs.Prices.{isFree, Ended}
 use Rattle.best.specs.PriceLaws.{free-one, free-zero}
 use Rattle.best.specs.Walk.{OnlyFree, Walk, walk-start, walk-free, walk-pass, walk-fail}
 use Rattle.search.specs.Slots.{slotsAt, Unused}
 use Rattle.search.specs.SlotLaws.{fresh-distinct, met-twice}
 use Rattle.search.specs.Rows.{rowAt}
-use Rattle.search.specs.Distinct.{isDistinct, betterDistinct, bestDistinct, KeyRow, FreeRow, AllRows}
+use Rattle.search.specs.Distinct.{isDistinct, betterDistinct, bestDistinct, KeyRow}
 
 -- ---- one rotation
 

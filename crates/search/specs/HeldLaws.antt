@@ -1,8 +1,8 @@
 -- Ring and bitmap against the marked slots: a rotation of bucket b is free in the ring exactly where its candidate is unbarred and its slots are unmarked,
 -- and after its slots are marked in ring and bitmap, these stand for the marked slots with the new ones added. Assumes nothing.
 use mathlib.Core.Path.{_≡_, refl, sym, ap, _∙_}
-use mathlib.Core.Logic.{_≢_, _⊎_, inl, inr, ⊎-elim}
-use mathlib.Core.Bool.{Bool, true, false, not, _&&_, _||_}
+use mathlib.Core.Logic.{_≢_, _⊎_, ⊎-elim}
+use mathlib.Core.Bool.{Bool, true, false, not, _&&_}
 use mathlib.Core.List.{List, [], _∷_, _++_, map}
 use Prim.Native.Nat.{ℕ, zero, suc, _+_, _-_, _*_, _≤_, _<_}
 use native.Mathlib.Omega.{arith}
@@ -11,23 +11,21 @@ use lib.ListN.{length, getD, length-map}
 use lib.Seq.{ext-getD}
 use Rattle.words.specs.Cases.{same-or-not}
 use Rattle.words.specs.Map.{Words, slot, marked}
-use Rattle.words.specs.MapLaws.{marked-same, marked-other, marked-words, slot-cases}
-use Rattle.rules.specs.Lists.{elem, indicator, allFree, distinct}
+use Rattle.words.specs.MapLaws.{marked-same, marked-other, marked-words}
+use Rattle.rules.specs.Lists.{elem, indicator, allFree}
 use Rattle.rules.specs.Geometry.{layouts, ringLen, rotations, position}
 use Rattle.rules.specs.Order.{Input, keysOf}
-use Rattle.rules.specs.Seed.{isFirst, barred, unbarred, seedOf, slotsOf, fits}
-use Rattle.rules.specs.Numbers.{bitmapWords}
-use Rattle.rules.proofs.Tests.{split, is-true, is-false, and-left, and-right, and-both, or-cases, or-left, or-right, not-or-left, not-or-right, neq, eq→eqb}
+use Rattle.rules.specs.Seed.{isFirst, barred, unbarred, slotsOf}
+use Rattle.rules.proofs.Tests.{split, is-false, and-left, and-right, and-both, or-cases, or-left, or-right, not-or-left, not-or-right, eq→eqb}
 use Rattle.rules.proofs.Counting.{ind-true, ind-false, getD-elem}
-use Rattle.rules.proofs.SeedLaws.{free-fits, fits-free}
 use Rattle.rings.specs.declared.Ring.{Ring}
-use Rattle.rings.specs.Ring.{Shape, ringBit}
+use Rattle.rings.specs.Ring.{ringBit}
 use Rattle.rings.specs.Keys.{one, barBit, freeAt}
-use Rattle.rings.specs.Place.{keySlot, Within, InMap, mapTo, markedTo, Fresh, Met}
+use Rattle.rings.specs.Place.{keySlot, Within, InMap, mapTo, markedTo}
 use Rattle.rings.specs.PlaceLaws.{length-mapTo}
 use Rattle.rings.specs.Columns.{Caches}
 use Rattle.rings.specs.CacheLaws.{caches-place}
-use Rattle.rings.specs.FilledLaws.{free-lt, free-unbarred, free-slots, slots-free}
+use Rattle.rings.specs.FilledLaws.{free-unbarred, free-slots, slots-free}
 use Rattle.rings.specs.Level.{levelRing}
 use Rattle.rings.specs.LevelLaws.{shape-level}
 use Rattle.ring_keys.specs.LayoutLaws.{homes-of, keys-within, keys-in-map}
@@ -35,7 +33,7 @@ use Rattle.ring_keys.specs.CostLaws.{candidate-slot}
 use Rattle.search.specs.Slots.{slotsAt, Unused, Reached}
 use Rattle.search.specs.SlotLaws.{length-slots, slots-at, free-at, at-free}
 use Rattle.search.specs.Candidates.{ringIn, startOf, rowOf, at, seedAt}
-use Rattle.search.specs.Searching.{Marks, Near, Held}
+use Rattle.search.specs.Searching.{Marks, Held}
 
 -- ---- tests
 

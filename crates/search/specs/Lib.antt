@@ -8,6 +8,11 @@ pub mod Settle
 pub mod SettleLaws
 pub mod Candidates
 pub mod Searching
+pub mod WorkMap
 pub mod HeldLaws
 pub mod Chosen
 pub mod PreparedLaws
+pub mod LaidLaws
+pub mod ReadyLaws
+pub mod MarksLaws
+pub mod Witness

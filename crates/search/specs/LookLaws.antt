@@ -1,6 +1,5 @@
 -- What `fill_free` and the two ways to the best leave is what the look for the best free rotation promises. Assumes nothing.
-use mathlib.Core.Path.{_≡_, refl, sym, ap, _∙_}
-use mathlib.Core.Logic.{⊎-elim}
+use mathlib.Core.Path.{_≡_, sym, ap, _∙_}
 use mathlib.Core.Bool.{Bool, not}
 use mathlib.Core.List.{List}
 use Prim.Native.Nat.{ℕ, zero, suc, _+_, _-_, _*_, _/_, _≤_, _<_}
@@ -13,7 +12,6 @@ use Rattle.rings.specs.Ring.{Shape}
 use Rattle.rings.specs.Keys.{costAt, freeAt}
 use Rattle.rings.specs.Free.{FilledTo}
 use Rattle.rings.specs.FilledLaws.{whole-words, none-free}
-use Rattle.rings.specs.RingLaws.{n-pos}
 use Rattle.rings.specs.Parts.{part, length-part, part-range, front-same}
 use Rattle.best.specs.declared.Best.{Best}
 use Rattle.best.specs.Best.{nothing, bestFrom, bestOf}

@@ -2,29 +2,24 @@
 use mathlib.Core.Path.{_≡_, refl, sym, ap, _∙_}
 use mathlib.Core.Logic.{_≢_, _⊎_, inl, inr}
 use mathlib.Core.Bool.{Bool, true, false, not, _&&_}
-use mathlib.Core.List.{List, [], _∷_, _++_}
+use mathlib.Core.List.{List, []}
 use Prim.Native.Nat.{ℕ, zero, suc, _+_, _-_, _*_, _^_, _≤_, _<_}
-use native.Mathlib.Nat.{lt-of-lt-of-le}
 use native.Mathlib.Omega.{arith}
-use lib.Dec.{T, not-T, T-not, eqb}
-use lib.ListN.{length, getD, take, length-map}
+use lib.Dec.{T, T-not}
+use lib.ListN.{length, getD}
 use lib.Pow.{pow-mono}
-use Rattle.words.specs.Map.{slot}
 use Rattle.rules.specs.Lists.{allFree, distinct}
-use Rattle.rules.specs.Geometry.{layouts, ringLen, slices, entries}
-use Rattle.rules.specs.Geometry as G
-use Rattle.rules.specs.Order.{Input, keysOf, sizeOf}
+use Rattle.rules.specs.Geometry.{layouts, ringLen, entries}
+use Rattle.rules.specs.Order.{Input, keysOf}
 use Rattle.rules.specs.Seed.{unbarred, slotsOf, fits, seedFor}
 use Rattle.rules.specs.Seed as Seed
 use Rattle.rules.specs.Sweep.{takes}
-use Rattle.rules.proofs.Tests.{is-true, and-left, and-right, and-both}
+use Rattle.rules.proofs.Tests.{and-left, and-right, and-both}
 use Rattle.rules.proofs.GeometryLaws.{slices-le}
 use Rattle.rules.proofs.GroupLaws.{keys-length}
 use Rattle.rules.proofs.SeedLaws.{fits-free, fits-distinct, free-fits, seed-lt}
 use Rattle.rules.proofs.CandidateLaws.{in-candidates, seed-range}
 use Rattle.geometry.proofs.Places.{first-high}
-use Rattle.rings.specs.declared.Ring.{Ring}
-use Rattle.rings.specs.Ring.{Shape}
 use Rattle.rings.specs.Keys.{Keys, costAt}
 use Rattle.rings.specs.Place.{InMap}
 use Rattle.rings.specs.PlaceLaws.{length-markedTo}
@@ -36,17 +31,17 @@ use Rattle.best.specs.PriceLaws.{free-one, cost-lt}
 use Rattle.best.specs.Layouts.{row-le}
 use Rattle.best.specs.Least as Least
 use Rattle.best.specs.Least.{best-found, best-none}
-use Rattle.ring_keys.specs.RingKey.{Homes}
 use Rattle.ring_keys.specs.LayoutLaws.{homes-of, keys-ok, keys-priced, entries-few}
 use Rattle.ring_keys.specs.CostLaws.{candidate-cost}
-use Rattle.search.specs.Slots.{slotsAt, Unused, Reached}
+use Rattle.search.specs.Slots.{slotsAt, Unused}
 use Rattle.search.specs.SlotLaws.{fresh-distinct, met-twice}
 use Rattle.search.specs.Rows.{rowAt, bestRows}
 use Rattle.search.specs.Distinct.{isDistinct, bestDistinct, KeyRow, FreeRow, AllRows}
 use Rattle.search.specs.Settle.{Settled, SeedIs}
 use Rattle.search.specs.Candidates.{ringIn, startOf, rowOf, at, seedAt}
-use Rattle.search.specs.Chosen.{found-seed, none-seed, twins-seed}
-use Rattle.search.specs.Searching.{Marks, Held, Searched, Prepared}
+use Rattle.search.specs.Chosen.{found-seed, none-seed}
+use Rattle.search.specs.Searching.{Held, Searched}
+use Rattle.search.specs.WorkMap.{Prepared}
 use Rattle.search.specs.HeldLaws.{row-length, row-reached, row-in-map, slots-are, free-unused, marks-after, caches-after}
 
 -- a seed that is not 0 takes its slots

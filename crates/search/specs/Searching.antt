@@ -1,16 +1,15 @@
 -- What the search for a bucket's seed asks for, and what it promises. A sweep's state is told by three things that the code does not hold: the input i, the
 -- list of marked slots, and the first slot of the stretch that the ring stands for. Assumes nothing.
 use mathlib.Core.Path.{_≡_}
-use mathlib.Core.Bool.{_&&_}
 use mathlib.Core.List.{List, _++_}
 use Prim.Native.Nat.{ℕ, _+_, _*_, _^_, _≤_, _<_}
 use lib.ListN.{length}
 use Rattle.words.specs.Map.{Words, slot}
 use Rattle.rules.specs.declared.Settings.{Settings}
-use Rattle.rules.specs.Lists.{elem, indicator, allFree}
+use Rattle.rules.specs.Lists.{elem, indicator}
 use Rattle.rules.specs.Geometry as G
 use Rattle.rules.specs.Order.{Input, keysOf}
-use Rattle.rules.specs.Seed.{unbarred, seedOf, slotsOf, seedFor}
+use Rattle.rules.specs.Seed.{seedFor}
 use Rattle.rules.specs.Sweep.{takes}
 use Rattle.rules.specs.Numbers.{bitmapWords}
 use Rattle.rules.specs.Good.{Sound}
@@ -19,9 +18,6 @@ use Rattle.geometry.specs.Shape.{Made}
 use Rattle.rings.specs.declared.Ring.{Ring}
 use Rattle.rings.specs.Columns.{Caches}
 use Rattle.rings.specs.Level.{levelRing}
-use Rattle.best.specs.Prices.{isFree, Ended}
-use Rattle.ring_keys.specs.RingKey.{ringKeys}
-use Rattle.search.specs.Rows.{rowAt}
 
 -- the bitmap has exactly the marked slots
 pub record Marks (m : ℕ) (bitmap marked : List ℕ) : Type 0 where
@@ -71,40 +67,7 @@ pub record Searched (i : Input) (marked : List ℕ) (first b : ℕ) (work : List
   pub caches : Caches (levelRing (i .settings)) work' bitmap' first
   pub len : length work' ≡ length work
 
--- the work words after the look for the best free rotation: layout r's ring keys at row r from `at` on, and the bits of its rotations, each 1 where the
--- candidate is unbarred and its slots are unmarked, at row r from `to` on
-pub record Prepared (i : Input) (marked : List ℕ) (first b : ℕ) (bitmap work : List ℕ) (at to count : ℕ) : Type 0 where
-  pub held : Held i marked first b bitmap work
-  pub keys : (r : ℕ) → r < G.layouts (i .settings) → rowAt work at (length (keysOf i b)) r ≡ ringKeys (i .settings) (G.first (i .settings) b) r (keysOf i b)
-  pub free : (r j : ℕ) → r < G.layouts (i .settings) → j < G.ringLen (i .settings)
-      → isFree (rowAt work to count r) j ≡ (unbarred i (record { r = r; j = j }) && allFree marked (slotsOf i b (seedOf i (record { r = r; j = j }))))
-  pub ended : (r : ℕ) → r < G.layouts (i .settings) → Ended (G.ringLen (i .settings)) (rowAt work to count r)
-  pub above : levelRing (i .settings) .words ≤ at
-  pub room : (at + G.layouts (i .settings) * length (keysOf i b) ≤ length work) × (to + G.layouts (i .settings) * count ≤ length work)
-
 -- `search` promises it for every input, list and first slot that its arguments are those of
-abbrev pub Found : (g : Geometry) (ring : Ring) (table keys : List ℕ) (b z : ℕ) (bitmap work : List ℕ) (seed : ℕ) (bitmap' work' : List ℕ) → Type 0
-Found g ring table keys b z bitmap work seed bitmap' work' =
+abbrev pub SeedFound : (g : Geometry) (ring : Ring) (table keys : List ℕ) (b z : ℕ) (bitmap work : List ℕ) (seed : ℕ) (bitmap' work' : List ℕ) → Type 0
+SeedFound g ring table keys b z bitmap work seed bitmap' work' =
     (i : Input) (marked : List ℕ) (first : ℕ) → Ready i marked first g ring table keys b z bitmap work → Searched i marked first b work seed bitmap' work'
-
--- the arguments of the pass over all free rotations: the keys' words end before `mid`, and from there to `to` is room to sort the hashes
-pub record Retry (i : Input) (marked : List ℕ) (first b : ℕ) (ring : Ring) (layouts : ℕ) (table keys : List ℕ) (start at mid to count : ℕ) (bitmap work : List ℕ) : Type 0 where
-  pub prepared : Prepared i marked first b bitmap work at to count
-  pub level : ring ≡ levelRing (i .settings)
-  pub all : layouts ≡ G.layouts (i .settings)
-  pub prices : table ≡ i .table
-  pub hashes : keys ≡ keysOf i b
-  pub begin : start ≡ G.first (i .settings) b
-  pub below : at + layouts * length keys ≤ mid
-  pub room : mid + 2 * length keys ≤ to
-
-pub record Retrying (ring : Ring) (layouts : ℕ) (table keys : List ℕ) (start at mid to count : ℕ) (bitmap work : List ℕ) : Type 0 where
-  pub i : Input
-  pub marked : List ℕ
-  pub first : ℕ
-  pub b : ℕ
-  pub retry : Retry i marked first b ring layouts table keys start at mid to count bitmap work
-
-abbrev pub Retried : (ring : Ring) (layouts : ℕ) (table keys : List ℕ) (start at mid to count : ℕ) (bitmap work : List ℕ) (seed : ℕ) (bitmap' work' : List ℕ) → Type 0
-Retried ring layouts table keys start at mid to count bitmap work seed bitmap' work' =
-    (i : Input) (marked : List ℕ) (first b : ℕ) → Retry i marked first b ring layouts table keys start at mid to count bitmap work → Searched i marked first b work seed bitmap' work'

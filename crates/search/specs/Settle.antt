@@ -7,7 +7,7 @@ use Rattle.rules.specs.Geometry as G
 use Rattle.rules.specs.Order.{Input}
 use Rattle.rules.specs.Seed.{seedOf}
 use Rattle.rings.specs.declared.Ring.{Ring}
-use Rattle.rings.specs.Place.{markedTo, mapTo, Fresh, Met, Placed}
+use Rattle.rings.specs.Place.{markedTo, mapTo, Fresh, Met}
 
 pub record Settled (g : Ring) (work bitmap keys : List ℕ) (start j size : ℕ) (ok : Bool) (work' bitmap' : List ℕ) : Type 0 where
   pub yes : ok ≡ true → (work' ≡ markedTo g work keys start j size) × (bitmap' ≡ mapTo g bitmap keys start j size) × Fresh g work keys start j size

@@ -1,18 +1,18 @@
 -- The two ends of `settle` and of `seed_of`. Assumes nothing.
-use mathlib.Core.Path.{_≡_, refl, sym, ap, _∙_}
-use mathlib.Core.Bool.{Bool, true, false, not, _&&_}
-use mathlib.Core.Logic.{_≢_, ⊎-elim}
+use mathlib.Core.Path.{_≡_, refl, sym, _∙_}
+use mathlib.Core.Bool.{Bool, true, false}
+use mathlib.Core.Logic.{_≢_}
 use mathlib.Core.List.{List}
-use Prim.Native.Nat.{ℕ, _+_, _-_, _*_, _≤_, _<_}
+use Prim.Native.Nat.{ℕ, _+_, _-_, _*_, _≤_}
 use native.Mathlib.Omega.{arith}
-use lib.Dec.{T, not-T, eqb}
+use lib.Dec.{not-T}
 use lib.ListN.{length, take, drop}
 use Rattle.rules.specs.Seed.{isFirst}
 use Rattle.rules.proofs.CandidateLaws.{is-first, first-is, seed-first, seed-other}
 use Rattle.rings.specs.declared.Ring.{Ring}
 use Rattle.rings.specs.Ring.{Shape}
 use Rattle.rings.specs.Keys.{Keys}
-use Rattle.rings.specs.Place.{markedTo, mapTo, Placed, InMap}
+use Rattle.rings.specs.Place.{mapTo, Placed, InMap}
 use Rattle.rings.specs.PlaceLaws.{part-markedTo}
 use Rattle.rings.specs.Parts.{part, part-range, length-part}
 use Rattle.search.specs.Settle.{Settled, SeedIs}

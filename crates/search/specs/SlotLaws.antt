@@ -1,21 +1,22 @@
 -- Lists of slots by their elements: all unmarked, pairwise different; and a rotation whose slots are free in the ring is placed exactly where they are
 -- pairwise different. Assumes nothing.
-use mathlib.Core.Path.{_≡_, refl, sym, ap, _∙_}
-use mathlib.Core.Logic.{_≢_, _⊎_, inl, inr, ⊎-elim}
-use mathlib.Core.Bool.{Bool, true, false, not, _&&_}
+use mathlib.Core.Path.{_≡_, sym, ap, _∙_}
+use mathlib.Core.Logic.{_≢_}
+use mathlib.Core.Bool.{not}
 use mathlib.Core.List.{List, [], _∷_, map}
-use Prim.Native.Nat.{ℕ, zero, suc, _+_, _*_, _≤_, _<_}
+use Prim.Native.Nat.{ℕ, zero, suc, _≤_, _<_}
 use native.Mathlib.Omega.{arith}
-use lib.Dec.{T, T-not, not-T, eqb, eqb→eq}
+use lib.Dec.{T, T-not, not-T, eqb}
 use lib.ListN.{length, getD, length-map}
 use Rattle.rules.specs.Lists.{elem, allFree, distinct}
-use Rattle.rules.proofs.Tests.{split, and-left, and-right, and-both, or-cases, not-or, neq→neqb}
+use Rattle.rules.proofs.Tests.{and-left, and-right, and-both, not-or, neq→neqb}
 use Rattle.rules.proofs.Counting.{getD-elem}
 use Rattle.rings.specs.declared.Ring.{Ring}
-use Rattle.rings.specs.Ring.{Shape, ringBit}
+use Rattle.rings.specs.Ring.{Shape}
 use Rattle.rings.specs.Keys.{slotAt}
 use Rattle.rings.specs.Place.{keySlot, Within, Fresh, Met}
-use Rattle.rings.specs.PlaceLaws.{fresh-apart, free-fresh, met-clash}
+use Rattle.rings.specs.PlaceLaws.{fresh-apart, met-clash}
+use Rattle.ring_keys.specs.LayoutLaws.{map-at}
 use Rattle.search.specs.Slots.{slotsAt, Unused, Reached}
 
 -- ---- a list by its elements
@@ -45,11 +46,6 @@ free-at marked (x ∷ xs) t (suc k) l = free-at marked xs (and-right (not (elem 
 pub at-free : (marked xs : List ℕ) → ((k : ℕ) → k < length xs → T (not (elem (getD xs k 0) marked))) → T (allFree marked xs)
 at-free marked [] h = tt
 at-free marked (x ∷ xs) h = and-both (not (elem x marked)) (allFree marked xs) (h 0 (omega arith)) (at-free marked xs (λ k l. h (suc k) (omega arith)))
-
-map-at : (f : ℕ → ℕ) (xs : List ℕ) (k : ℕ) → k < length xs → getD (map f xs) k 0 ≡ f (getD xs k 0)
-map-at f [] k l = absurd (omega arith)
-map-at f (x ∷ xs) zero l = refl
-map-at f (x ∷ xs) (suc k) l = map-at f xs k (omega arith)
 
 -- a map to pairwise different values is one of pairwise different values
 pub map-distinct : (f : ℕ → ℕ) (xs : List ℕ) → T (distinct (map f xs)) → T (distinct xs)

@@ -1,5 +1,4 @@
 // The best free rotation of a bucket: which rotations are free, and the cheapest of these.
-ghost use mathlib.Core.Path.{_≡_};
 ghost use Prim.Native.Nat.{_+_, _*_, _^_, _<_, _≤_};
 ghost use lib.ListN.{length};
 ghost use Rattle.rings.specs.Ring.{Shape};

@@ -18,9 +18,6 @@ module _ (keys work run : List ℕ) (room : 2 * length keys ≤ length work) (ke
   front : take (length keys) (run ++ drop (2 * length keys) work) ≡ take (length keys) run
   front = take-append-le (length keys) run (drop (2 * length keys) work) (omega (arith, run-length))
 
-  pub front-length : length keys ≡ length (take (length keys) (run ++ drop (2 * length keys) work))
-  front-length = sym (ap length front ∙ length-take-le (length keys) run (omega (arith, run-length)))
-
   pub answer : Sorts keys (take (length keys) run) → (r : Bool) → r ≡ twins (take (length keys) (run ++ drop (2 * length keys) work))
       → r ≡ not (distinct keys)
   answer s r e = e ∙ ap twins front ∙ sorted-twins keys (take (length keys) run) s

@@ -4,13 +4,13 @@ use mathlib.Core.Path.{_≡_, refl, sym, ap, _∙_}
 use mathlib.Core.Logic.{_⊎_, inl, inr}
 use mathlib.Core.Bool.{Bool, true, false, not, _&&_, _||_}
 use mathlib.Core.List.{List, [], _∷_}
-use Prim.Native.Nat.{ℕ, _+_, _<_, _≤_}
+use Prim.Native.Nat.{ℕ, _<_}
 use native.Mathlib.Omega.{arith}
-use lib.Dec.{T, eqb, leb, leb→le, eqb→eq, eqb-refl}
+use lib.Dec.{T, eqb, leb, leb→le}
 use borrow.Author.Tests.{ne-eqb}
-use Rattle.rules.specs.Lists.{elem, count, distinct, indicator}
-use Rattle.rules.proofs.Tests.{split, is-true, is-false, and-left, and-right, and-both, neq}
-use Rattle.rules.proofs.Counting.{ind-true, ind-false, count-not-elem, not-elem-count}
+use Rattle.rules.specs.Lists.{elem, count, distinct}
+use Rattle.rules.proofs.Tests.{split, is-true, is-false, and-left, and-right, neq}
+use Rattle.rules.proofs.HoleLaws.{distinct-once, once-distinct}
 use Rattle.sorting.specs.Runs.{ascends, starts, twins, Sorts}
 
 below-all : (x lo : ℕ) (ys : List ℕ) → x < lo → T (ascends lo ys) → elem x ys ≡ false
@@ -39,21 +39,6 @@ twins-ascending lo [] t = refl
 twins-ascending lo (x ∷ ys) t =
     let u : T (ascends x ys) = and-right (leb lo x) (ascends x ys) t in
     rw (next-only x ys u, twins-ascending x ys u) (either (elem x ys) (distinct ys))
-
-distinct-once : (xs : List ℕ) → T (distinct xs) → (x : ℕ) → count x xs ≤ 1
-distinct-once [] t x = omega arith
-distinct-once (y ∷ ys) t x = go (split (eqb x y)) (distinct-once ys (and-right (not (elem y ys)) (distinct ys) t) x)
-  where
-    go : T (eqb x y) ⊎ T (not (eqb x y)) → count x ys ≤ 1 → indicator (eqb x y) + count x ys ≤ 1
-    go (inl e) ih = omega (arith, ind-true (eqb x y) e, not-elem-count x ys (rw (eqb→eq x y e) (and-left (not (elem y ys)) (distinct ys) t)))
-    go (inr n) ih = omega (arith, ind-false (eqb x y) n)
-
-once-distinct : (xs : List ℕ) → ((x : ℕ) → count x xs ≤ 1) → T (distinct xs)
-once-distinct [] h = tt
-once-distinct (y ∷ ys) h =
-    and-both (not (elem y ys)) (distinct ys)
-    (count-not-elem y ys (omega (arith, h y, ind-true (eqb y y) (eqb-refl y))))
-    (once-distinct ys (λ x. omega (arith, h x)))
 
 pub same-distinct : (xs ys : List ℕ) → ((x : ℕ) → count x xs ≡ count x ys) → distinct xs ≡ distinct ys
 same-distinct xs ys h = go (split (distinct xs)) (split (distinct ys))

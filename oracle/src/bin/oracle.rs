@@ -1,6 +1,6 @@
 //! The oracle's command (README.md, or no argument, has its uses).
 
-use oracle::{cases, house, sheets, text, *};
+use oracle::{cases, geometry, house, sheets, text, *};
 use std::io::{Read, Write};
 use std::process::ExitCode;
 use std::time::Instant;
@@ -12,6 +12,7 @@ oracle figures                 rule G's figures of the cases on standard input
 oracle positions SEED          bucket, slice, offsets and position of each hash of the cases, under one seed
 oracle firsts                  first slice of each bucket of the cases
 oracle order                   the order in which the buckets of the cases are taken
+oracle geometry SEED COUNT     each setting at its limits, and COUNT others, with rule G's numbers
 oracle table ENTRIES           the logarithm table
 oracle cases CHOICE            generated cases
 oracle answered CHOICE         the same with the table and the Rust's answers, in house numbers
@@ -147,6 +148,10 @@ fn run(words: &[String]) -> Result<Vec<u8>, String> {
             each(|case| positions_of(case, seed))?
         }
         "firsts" => each(|case| row(&first_slices(&case.settings, 0..case.settings.buckets)))?,
+        "geometry" => {
+            let seed = seed(&mut words)?;
+            geometry::text(seed, number(&mut words, "the count")?)
+        }
         "order" => each(|case| row(&order(case)))?,
         "table" => log2_table(number(&mut words, "the number of entries")?)
             .iter()

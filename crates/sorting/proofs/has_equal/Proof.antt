@@ -6,7 +6,7 @@ use Prim.Native.Nat.{_*_}
 use native.Mathlib.Omega.{arith}
 use lib.ListN.{length}
 use lib.Seq.{length-take-le}
-use Rattle.sorting.proofs.Lent.{front-length, answer, beyond, long}
+use Rattle.sorting.proofs.Lent.{answer, beyond, long}
 use Rattle.sorting.proofs.has_equal.Statement.{statement}
 use Rattle.sorting.proofs.has_equal.Tie as tie
 
@@ -27,10 +27,7 @@ slice-reshare-prefix-equal-neighbours : tie.Need-slice-reshare-prefix-equal-neig
 slice-reshare-prefix-equal-neighbours c = search needs
 
 slice-aggregate-equal-neighbours : tie.Need-slice-aggregate-equal-neighbours
-slice-aggregate-equal-neighbours c =
-    let call = c .before .before .before in
-    let start = call .before .before .before .before in
-    front-length (start .args .keys .now) (start .args .work .now) (call .sort-into .last .1 .0) (start .pre) (call .sort-into .kept .1 .0)
+slice-aggregate-equal-neighbours c = sym (length-take-le _ _ (omega arith))
 
 equal-neighbours-requires : tie.Need-equal-neighbours-requires
 equal-neighbours-requires c κs = search needs

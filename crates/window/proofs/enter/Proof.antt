@@ -8,7 +8,7 @@ use lib.ListN.{getD, take}
 use lib.IntN.{ℤ, pos}
 use denote.Ref.{now}
 use native.Mathlib.Omega.{arith}
-use Prim.Native.Nat.{_+_, _-_}
+use Prim.Native.Nat.{_+_, _<_}
 use mathlib.Core.Path.{_≡_, refl, ap, _∙_}
 use borrow.Author.Needs.{needs}
 use Rattle.window.proofs.enter.Statement.{statement}
@@ -65,7 +65,7 @@ set-bit-requires c κs = search needs
 push-requires : tie.Need-push-requires
 push-requires c κs =
     let s = c .before .before .before .before .before .before .before in
-    let l = c .before .before .before .if2 .taken in
+    let l : s .args .size < 64 = omega (arith, c .before .before .before .if2 .taken) in
     ((l, s .pre .low), (s .pre .room l, s .pre .weight (omega (arith, c .before .before .before .before .before .before .if1 .left)) l))
 
 -- src/lib.rt:90:9

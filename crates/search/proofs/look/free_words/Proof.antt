@@ -1,6 +1,4 @@
 -- n is a power of two: below 64 one word is enough, and from 64 on it is a multiple of 64. Assumes nothing.
-use native.Mathlib.Omega.{arith}
-use borrow.Author.Needs.{needs}
 use Rattle.rings.specs.RingLaws.{n-pos}
 use Rattle.search.specs.LookLaws.{free-one-word, free-more-words}
 use Rattle.search.proofs.look.free_words.Statement.{statement}

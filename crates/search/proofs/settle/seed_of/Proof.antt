@@ -1,7 +1,6 @@
 -- The two cases of rule S's seed. Assumes nothing.
 use native.Mathlib.Nat.{mul-le-mul-left}
 use native.Mathlib.Omega.{arith}
-use borrow.Author.Needs.{needs}
 use Rattle.search.specs.SettleLaws.{seed-whole, seed-part}
 use Rattle.search.proofs.settle.seed_of.Statement.{statement}
 use Rattle.search.proofs.settle.seed_of.Tie as tie

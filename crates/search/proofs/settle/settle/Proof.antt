@@ -1,5 +1,4 @@
 -- The slots that `place` marked in the ring are marked in the bitmap; the keys lie above the ring, so they are still those of the entry. Assumes nothing.
-use native.Mathlib.Omega.{arith}
 use lib.ListN.{length}
 use borrow.Author.Needs.{needs}
 use Rattle.search.specs.SettleLaws.{settled-no, settled-yes, settled-keys, settled-map}

@@ -38,7 +38,7 @@ shared-slice-read-if1-2 c = omega arith
 
 returns : tie.Need-returns Inv-loop μ-loop
 returns c =
-    sym (equal-pair (c .before .before .before .before .before .args .run .now) (c .before .before .before .before .loop .i) (c .before .before .before .loop-test .taken) (c .if1 .taken)) ∙ c .before .before .before .before .loop .inv .1
+    sym (equal-pair (c .before .before .before .before .before .args .run .now) (c .before .before .before .before .loop .i) (omega arith) (c .if1 .taken)) ∙ c .before .before .before .before .loop .inv .1
 
 add-i : tie.Need-add-i Inv-loop μ-loop
 add-i c = omega arith
@@ -47,10 +47,10 @@ loop-less : tie.Need-loop-less Inv-loop μ-loop
 loop-less c = omega arith
 
 loop-again : tie.Need-loop-again Inv-loop μ-loop
-loop-again c = (omega arith, sym (other-pair (c .before .before .before .before .before .args .run .now) (c .before .before .before .before .loop .i) (c .before .before .before .loop-test .taken) (c .if1 .left)) ∙ c .before .before .before .before .loop .inv .1)
+loop-again c = (omega arith, sym (other-pair (c .before .before .before .before .before .args .run .now) (c .before .before .before .before .loop .i) (omega arith) (c .if1 .left)) ∙ c .before .before .before .before .loop .inv .1)
 
 returns-2 : tie.Need-returns-2 Inv-loop μ-loop
-returns-2 c = sym (no-pair (c .before .before .args .run .now) (c .before .loop .i) (c .loop-test .left)) ∙ c .before .loop .inv .1
+returns-2 c = sym (no-pair (c .before .before .args .run .now) (c .before .loop .i) (omega arith)) ∙ c .before .loop .inv .1
 
 pub equal-neighbours-spec : {M : Type 1} → statement M
 equal-neighbours-spec =
