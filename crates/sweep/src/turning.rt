@@ -8,12 +8,12 @@ ghost use Rattle.rings.specs.Level.{levelRing};
 ghost use Rattle.window.specs.Window.{state};
 ghost use Rattle.sweep.specs.Sweeping.{viewAt, Level, Buffers, Starting, Ending, Begun, Blank};
 ghost use Rattle.sweep.specs.Serving.{Serves, Turn, Served};
-ghost use Rattle.search.specs.Searching.{Searching, Found};
 use super::moving::advance;
 use geometry::shape::Geometry;
 use groups::keys_of;
 use ring_keys::level::ring_of;
 use rings::Ring;
+use search::search;
 use window::View;
 use window::is_empty;
 use window::refill;
@@ -24,24 +24,6 @@ use window::take;
 pub enum Ended {
     All,
     At(u64),
-}
-
-// Stands for the search.
-fn search(
-    g: Geometry,
-    ring: Ring,
-    table: &[u32],
-    keys: &[u64],
-    b: usize,
-    z: usize,
-    bitmap: &mut [u64],
-    work: &mut [u64],
-) -> usize
-    requires { ⌜ Searching g ring (now table) (now keys) b z (now bitmap) (now work) ⌝ }
-    ensures { λ r. ⌜ r < 65536 ⌝ }
-    ensures { λ r. ⌜ Found g ring (now (table .entry)) (now (keys .entry)) b z (now (bitmap .entry)) (now (work .entry)) r (now (bitmap .exit)) (now (work .exit)) ⌝ }
-{
-    0
 }
 
 // Bucket b gets its seed.

@@ -7,7 +7,6 @@ use Rattle.sweep.proofs.turning.serve.Tie as tie
 use Rattle.sweep.proofs.turning.serve.Reads as reads
 use Rattle.sweep.proofs.turning.serve.Lts as lts
 use Rattle.groups.proofs.keys_of.Reads as keys-of-reads
-use Rattle.sweep.proofs.turning.search.Reads as search-reads
 
 -- src/turning.rt:66:9
 keys-of-requires : tie.Need-keys-of-requires
@@ -21,7 +20,9 @@ search-requires c κs =
 
 -- src/turning.rt:68:16
 cast-seeds : tie.Need-cast-seeds
-cast-seeds c = search needs
+cast-seeds c =
+    let w = c .before .before .before .before .before .before .before .before .before .before .before .before .before .before .pre .1 in
+    omega (arith, c .before .before .before .before .search .ensures (w .i) _ _ (asked (w .level) (w .buffers) (w .turn) (c .before .before .before .before .before .before .before .before .before .before .before .before .before .before .pre .0) (c .before .before .before .before .before .before .before .keys-of .ensures)) .small)
 
 -- src/turning.rt:68:5
 mul-seeds : tie.Need-mul-seeds
@@ -45,7 +46,7 @@ same-length-3 c = search needs
 
 -- src/turning.rt:46:1
 returns : tie.Need-returns
-returns c = λ i lo hi k first l f t. answered l f t (c .before .before .before .before .search .ensures .1 i _ first (asked l f t (c .before .before .before .before .before .before .before .before .before .before .before .before .before .before .pre .0) (c .before .before .before .before .before .before .before .keys-of .ensures)))
+returns c = λ i lo hi k first l f t. answered l f t (c .before .before .before .before .search .ensures i _ first (asked l f t (c .before .before .before .before .before .before .before .before .before .before .before .before .before .before .pre .0) (c .before .before .before .before .before .before .before .keys-of .ensures)))
 
 pub serve-spec : {M : Type 1} → statement M
 serve-spec =
