@@ -3,3 +3,4 @@ pub mod TurnLaws
 pub mod StepLaws
 pub mod StartLaws
 pub mod PerformLaws
+pub mod Mission
