@@ -1,6 +1,7 @@
 -- The rotation is priced, and where it costs less it is tried. A trial of slots that are unused tells whether two of them are one, and is taken back.
 -- Assumes nothing.
 use mathlib.Core.Path.{refl}
+use Prim.Native.Nat.{_≤_}
 use native.Mathlib.Omega.{arith}
 use borrow.Author.Needs.{needs}
 use Rattle.rings.specs.RingLaws.{n-le}
@@ -33,8 +34,10 @@ same-length : tie.Need-same-length
 same-length c = search needs
 
 returns : tie.Need-returns
-returns c = let s = c .before .before .before .before .before .before .before in
-    (step-dear _ _ _ _ _ _ _ (rw (part-range (s .args .work .now) (s .args .a) (s .args .size)) at (c .before .before .cost .ensures .0)) (c .if1 .taken), refl)
+returns c =
+    let s = c .before .before .before .before .before .before .before in
+    let dear : s .args .best .cost ≤ c .before .before .cost .result = omega arith in
+    (step-dear _ _ _ _ _ _ _ (rw (part-range (s .args .work .now) (s .args .a) (s .args .size)) at (c .before .before .cost .ensures .0)) dear, refl)
 
 fits-requires : tie.Need-fits-requires
 fits-requires c κs = let s = c .before .before .before .before .before .before .before .before in
