@@ -60,7 +60,7 @@ loop-less c = omega (arith, c .before .before .before .before .before .before .b
 loop-again : tie.Need-loop-again Inv-loop μ-loop
 loop-again c =
     let d = c .before .before .before .before .before .before .before .before .before .before .before .before .before .before .before .before .before .before .before .loop .inv in
-    let t = c .before .before .take .ensures (d .i) (d .lo) (d .k) (d .ranged) (c .before .before .before .before .before .before .before .before .before .before .before .refill .ensures (d .i) (d .lo) (d .k) (d .ranged) (d .windowed)) in
+    let t = c .before .before .take .ensures .0 (d .i) (d .lo) (d .k) (d .ranged) (c .before .before .before .before .before .before .before .before .before .before .before .refill .ensures (d .i) (d .lo) (d .k) (d .ranged) (d .windowed)) in
     record { i = d .i; lo = d .lo; k = d .k + 1; ranged = d .ranged; windowed = t .windowed }
 
 -- src/turns.rt:9:1
