@@ -247,6 +247,7 @@ one_bucket(7, 4, True, [0])
 one_bucket(7, 4, True, [0, 2**62 + 3])
 one_bucket(7, 4, True, [0, 0])
 one_bucket(7, 4, False, [0, 0])
+one_bucket(7, 4, False, [0, 2**62 + 3])
 one_bucket(7, 2, True, [0])
 one_bucket(1, 4, True, [0])
 for w in 0, 2048:

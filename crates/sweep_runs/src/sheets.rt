@@ -94,6 +94,8 @@ pub fn all() {
     one_bucket(7, 4, true, &[0, 0x4000_0000_0000_0003], &[0, 2]);
     one_bucket(7, 4, true, &[0, 0], &[0, 2]);
     one_bucket(7, 4, false, &[0, 0], &[0, 2]);
+    // bumping forbidden where none is bumped
+    one_bucket(7, 4, false, &[0, 0x4000_0000_0000_0003], &[0, 2]);
     // P6, P7
     one_bucket(7, 2, true, &[0], &[0, 1]);
     one_bucket(1, 4, true, &[0], &[0, 1]);
