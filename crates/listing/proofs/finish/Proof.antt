@@ -1,3 +1,5 @@
+-- `finish` prints the listing of whatever bytes were fed: 18, 19 for over 205 numbers, else what the numbers kept ask for.
+-- Assumes nothing.
 use lib.Seq.{length-take-le}
 use native.Mathlib.Omega.{arith}
 use mathlib.Core.Path.{_≡_, refl, sym, ap, _∙_}

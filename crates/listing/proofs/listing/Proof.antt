@@ -1,3 +1,5 @@
+-- `listing` feeds all the bytes and finishes; a short buffer is left as it was.
+-- Assumes nothing.
 use lib.ListN.{length}
 use native.Mathlib.Omega.{arith}
 use mathlib.Core.List.{[], _++_}

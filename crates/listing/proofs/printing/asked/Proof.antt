@@ -1,3 +1,5 @@
+-- `asked` prints `askedText`: 19 by size, 19 by work, else the sweep of the hashes and begins at the front of its buffers.
+-- Assumes nothing.
 use lib.Seq.{sets, length-take-le}
 use Rattle.rules.specs.Answers.{namedBy}
 use lib.ListN.{length, take, replicate}

@@ -1,3 +1,5 @@
+-- `listed` prints the sweep with the holes of its bitmap: the hole list is never refused here, and its front is `holesOf`.
+-- Assumes nothing.
 use lib.Seq.{sets}
 use lib.ListN.{length, take}
 use lib.Seq.{length-take-le}

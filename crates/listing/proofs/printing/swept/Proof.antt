@@ -1,3 +1,5 @@
+-- `swept` prints what the sweep said: a refusal as it came, or the listing of the seeds and the bitmap that it left.
+-- Assumes nothing.
 use lib.Seq.{sets}
 use lib.ListN.{length}
 use Prim.Native.Nat.{ℕ, _<_}

@@ -1,3 +1,5 @@
+-- `swept_alone` lends buffers of the lengths wanted and the house table.
+-- Assumes nothing.
 use lib.Seq.{sets}
 use lib.ListN.{length}
 use lib.Seq.{length-take-le}
