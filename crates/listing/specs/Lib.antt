@@ -3,3 +3,4 @@ pub mod Listing
 pub mod Limits
 pub mod Work
 pub mod Ends
+pub mod Fed
