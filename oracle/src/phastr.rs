@@ -6,6 +6,7 @@
 use crate::case::{Answer, Case, Figures, Settings};
 use builder::Geometry;
 use dsi_progress_logger::ProgressLog;
+use std::ops::Deref;
 use sweep::{Level, PartSource};
 
 /// Stand-ins for the two traits of the progress logger: they say nothing.
@@ -183,18 +184,39 @@ fn geometry(s: &Settings, chunks: usize) -> Geometry {
     g
 }
 
-/// Sweeps a case, in at most `chunks` chunks. None: bumping is forbidden and some bucket got 0.
-pub fn sweep(case: &Case, chunks: usize) -> Option<Answer> {
+/// The sweep alone: seeds and bitmap, in at most `chunks` chunks. None: bumping is forbidden and some
+/// bucket got 0.
+pub fn swept(case: &Case, chunks: usize) -> Option<(Vec<u16>, impl Deref<Target = [u64]>)> {
     let g = geometry(&case.settings, chunks);
     let source = Handed { hashes: &case.hashes, begins: &case.begins };
     let mut log = dsi_progress_logger::Silent;
     let level: Level<u16> = sweep::sweep_level(&source, &g, &case.weights, case.bump, &mut log)?;
-    let holes = sweep::holes(&level.occupied, g.m);
+    Some((level.seeds, level.occupied))
+}
+
+/// The unmarked slots below m.
+pub fn holes(bitmap: &[u64], m: usize) -> Vec<usize> {
+    sweep::holes(bitmap, m)
+}
+
+/// Sweeps a case and lists its holes.
+pub fn sweep(case: &Case, chunks: usize) -> Option<Answer> {
+    let (seeds, bitmap) = swept(case, chunks)?;
+    let holes = holes(&bitmap, case.settings.m);
     Some(Answer {
-        seeds: level.seeds,
-        bitmap: level.occupied.to_vec(),
+        seeds,
+        bitmap: bitmap.to_vec(),
         holes: holes.into_iter().map(|p| p as u32).collect(),
     })
+}
+
+/// Looks hashes up in a level's seeds: None where the bucket was bumped.
+pub fn lookups(s: &Settings, seeds: &[u16], hashes: &[u64], found: &mut [Option<usize>]) {
+    let g = geometry(s, 1);
+    for (place, &hash) in found.iter_mut().zip(hashes) {
+        let seed = seeds[g.bucket(hash)] as usize;
+        *place = if seed == 0 { None } else { Some(g.pos(hash, seed)) };
+    }
 }
 
 /// How many chunks a sweep of at most `chunks` makes.

@@ -1,0 +1,64 @@
+// What a caller has to lend, and the house table.
+use geometry::count::bucket_count;
+use geometry::settings::number_to_7;
+use geometry::shape::geometry_of;
+use geometry::shape::work_words;
+use log_table::house;
+use rules::Counted;
+use rules::Settings;
+
+// How many buckets so many keys get. 0: count has the number.
+#[no_mangle]
+pub extern "C" fn phastr_bucket_count(
+    log2_slice_len: u64,
+    keys: u64,
+    size: f64,
+    count: &mut u64,
+) -> u64 {
+    match bucket_count(log2_slice_len, keys, size) {
+        Counted::Buckets(n) => {
+            *count = n;
+            0
+        }
+        Counted::Refused(number) => number,
+    }
+}
+
+// What a sweep of a largest bucket of z keys wants lent. 0: sizes has the work words W, the table's entries and the
+// bitmap's words. 10 where z is above 4,096.
+#[no_mangle]
+pub extern "C" fn phastr_sizes(
+    m: u64,
+    log2_slice_len: u64,
+    ll: u64,
+    sb: u64,
+    buckets: u64,
+    z: u64,
+    sizes: &mut [u64; 3],
+) -> u64 {
+    let s = Settings {
+        m: m,
+        log2_slice_len: log2_slice_len,
+        ll: ll,
+        sb: sb,
+        buckets: buckets,
+    };
+    let n = number_to_7(s);
+    if n != 0 {
+        return n;
+    }
+    if 4096 < z {
+        return 10;
+    }
+    let g = geometry_of(s);
+    sizes[0] = work_words(g, z);
+    sizes[1] = g.entries;
+    sizes[2] = (m + 63) / 64;
+    0
+}
+
+// Writes the house table.
+#[no_mangle]
+pub extern "C" fn phastr_house_table(table: &mut [u32; 2048]) {
+    *table = house();
+}
