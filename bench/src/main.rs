@@ -102,6 +102,9 @@ impl Ours {
 }
 
 fn main() {
+    if std::env::var_os("BENCH_ADDRESS").is_some() {
+        eprintln!("address {:x}", phastr_sweep as *const () as usize);
+    }
     let words: Vec<String> = std::env::args().skip(1).collect();
     let side = &words[0];
     let named = SETTINGS.iter().find(|s| s.name == words[1]).expect("a setting");
