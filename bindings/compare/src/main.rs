@@ -1,0 +1,120 @@
+//! Sweeps through the Rust binding, held to PHastR's own sweep on the same cases.
+//!
+//!     compare [SEED]             every setting, the named cases, 20,000 small ones, families of 10^5 and 10^6 keys
+//!     compare long [SEED]        10^6 small cases and a family of 10^7 keys
+//!     compare changed KIND       every setting, with one number of the Rust's changed: one difference must be found
+//!
+//! A SEED of the cases is a number, or 'fixed'. The last line is 'N compared, M differ', and the
+//! exit status is 0 only if nothing differs.
+
+mod change;
+mod ours;
+mod rust;
+mod tally;
+
+use change::Change;
+use oracle::{Case, cases};
+use ours::Ours;
+use std::process::ExitCode;
+use std::time::Instant;
+use tally::Tally;
+
+/// How many small cases a short and a long run take.
+const SMALL: usize = 20_000;
+const SMALL_LONG: usize = 1_000_000;
+
+/// PHastR's defaults, and seeds of 10 bits on slices of 2,048 with the bucket size they are tuned for.
+const FAMILIES: [(cases::Setting, f64); 2] = [(cases::DEFAULT, 4.25), ((11, 2, 10), 5.75)];
+
+/// A run: what it compares with, what it compares in, and how long it took.
+struct Run {
+    seed: u64,
+    ours: Ours,
+    tally: Tally,
+    change: Change,
+}
+
+impl Run {
+    fn new(seed: u64, change: Change) -> Run {
+        Run { seed, ours: Ours::new(), tally: Tally::default(), change }
+    }
+
+    /// Compares some cases and says how many there were.
+    fn compare(&mut self, what: &str, cases: impl Iterator<Item = Case>) {
+        let (began, before) = (Instant::now(), self.tally);
+        for case in cases {
+            let mut wanted = rust::answer(&case);
+            self.change.make(&mut wanted);
+            self.ours.compare(&case, &wanted, &mut self.tally);
+        }
+        self.tally.since(&before).say(what, began.elapsed());
+    }
+
+    /// A family of so many keys, once more through the calls that own their memory.
+    fn family(&mut self, keys: usize, (setting, size): (cases::Setting, f64)) {
+        let case = cases::family_of(self.seed, keys, keys, size, setting);
+        let what = format!("family of {keys} keys, sb {}", setting.2);
+        self.compare(&what, std::iter::once(case.clone()));
+        let (began, before) = (Instant::now(), self.tally);
+        ours::compare_owned(&case, size, &rust::answer(&case), &mut self.tally);
+        self.tally.since(&before).say(&format!("{what}, owned"), began.elapsed());
+    }
+
+    fn short(&mut self) {
+        self.compare("every setting", cases::every_setting(self.seed).into_iter());
+        let named = oracle::named::all(self.seed ^ 1).into_iter().map(|(_, case)| case);
+        self.compare("named", named);
+        self.compare("small", cases::small(self.seed ^ 2, SMALL));
+        for keys in [100_000, 1_000_000] {
+            FAMILIES.into_iter().for_each(|family| self.family(keys, family));
+        }
+    }
+
+    fn long(&mut self) {
+        self.compare("small", cases::small(self.seed ^ 2, SMALL_LONG));
+        self.family(10_000_000, FAMILIES[0]);
+    }
+}
+
+fn seed(word: Option<&str>) -> Result<u64, String> {
+    let word = word.unwrap_or("fixed");
+    cases::seed(word).ok_or(format!("the seed '{word}' is neither a number nor 'fixed'"))
+}
+
+fn run(words: &[&str]) -> Result<Tally, String> {
+    let mut run;
+    match words {
+        ["changed", kind] => {
+            let change = Change::of(kind).ok_or(format!("there is no kind '{kind}' of numbers"))?;
+            run = Run::new(seed(None)?, change);
+            run.compare("every setting", cases::every_setting(run.seed).into_iter());
+            if !run.change.made() {
+                return Err(format!("no case has a number of kind '{kind}' to change"));
+            }
+        }
+        ["long", rest @ ..] => {
+            run = Run::new(seed(rest.first().copied())?, Change::None);
+            run.long();
+        }
+        _ => {
+            run = Run::new(seed(words.first().copied())?, Change::None);
+            run.short();
+        }
+    }
+    Ok(run.tally)
+}
+
+fn main() -> ExitCode {
+    let words: Vec<String> = std::env::args().skip(1).collect();
+    let words: Vec<&str> = words.iter().map(String::as_str).collect();
+    match run(&words) {
+        Ok(tally) => {
+            println!("{} compared, {} differ", tally.numbers, tally.differ);
+            if tally.differ == 0 { ExitCode::SUCCESS } else { ExitCode::FAILURE }
+        }
+        Err(message) => {
+            eprintln!("compare: {message}");
+            ExitCode::FAILURE
+        }
+    }
+}

@@ -1,0 +1,144 @@
+//! A case through the binding, and its comparison.
+
+use crate::rust::{Level, SINGLE, Wanted};
+use crate::tally::Tally;
+use oracle::{Case, log2_table};
+use phastr::lent::{self, Input, Output};
+use phastr::{BUMPED, Builder, Counts, Error, Settings};
+
+/// The entries of the longest table that any settings ask for.
+const LONGEST_TABLE: usize = 95 + 4097 + 65_536;
+
+/// What stands in lent memory before a sweep that does not find the last one's leavings there.
+const RUBBISH: u64 = 0xA5A5_A5A5_A5A5_A5A5;
+
+/// Lent memory, used again from case to case.
+pub struct Ours {
+    /// The Rust's own logarithm table.
+    table: Vec<u32>,
+    seeds: Vec<u16>,
+    bitmap: Vec<u64>,
+    work: Vec<u64>,
+    holes: Vec<u32>,
+    slots: Vec<u64>,
+}
+
+impl Ours {
+    pub fn new() -> Ours {
+        Ours {
+            table: log2_table(LONGEST_TABLE),
+            seeds: vec![],
+            bitmap: vec![],
+            work: vec![],
+            holes: vec![],
+            slots: vec![],
+        }
+    }
+
+    /// Sweeps a case and holds all that comes out to the Rust's.
+    pub fn compare(&mut self, case: &Case, wanted: &Wanted, tally: &mut Tally) {
+        tally.cases += 1;
+        tally.keys += case.hashes.len() as u64;
+        match (self.sweep(case), wanted) {
+            (Ok(counts), Wanted::Done(level)) => self.compare_level(case, counts, level, tally),
+            (Err(Error::NoSeed { bucket }), &Wanted::Stopped(wanted)) => {
+                tally.same("the bucket of 14", bucket, wanted);
+                let zero =
+                    self.seeds.iter().all(|&s| s == 0) && self.bitmap.iter().all(|&w| w == 0);
+                tally.same("zeros after 14", zero, true);
+            }
+            (ours, rust) => {
+                let stopped = match rust {
+                    Wanted::Stopped(bucket) => Err(Error::NoSeed { bucket: *bucket }),
+                    Wanted::Done(level) => Ok(counts_of(level)),
+                };
+                tally.same("outcome", ours, stopped);
+            }
+        }
+        tally.same("zeros in work", self.work.iter().all(|&w| w == 0), true);
+    }
+
+    fn sweep(&mut self, case: &Case) -> Result<Counts, Error> {
+        let settings = settings(case);
+        let sizes = lent::sizes(&settings, case.largest() as u64)?;
+        self.seeds.resize(case.settings.buckets, RUBBISH as u16);
+        self.bitmap.resize(sizes.bitmap, RUBBISH);
+        self.work.clear();
+        self.work.resize(sizes.work, RUBBISH);
+        let input = Input {
+            settings,
+            weights: case.weights,
+            bump: case.bump,
+            hashes: &case.hashes,
+            begins: &case.begins,
+            table: &self.table,
+        };
+        let output =
+            Output { seeds: &mut self.seeds, bitmap: &mut self.bitmap, work: &mut self.work };
+        lent::sweep(&input, output)
+    }
+
+    fn compare_level(&mut self, case: &Case, counts: Counts, wanted: &Level, tally: &mut Tally) {
+        tally.all_same("counts", &counts_in(counts), &wanted.counts);
+        tally.all_same("seeds", &self.seeds, &wanted.seeds);
+        tally.all_same("bitmap", &self.bitmap, &wanted.bitmap);
+        self.holes.resize(case.settings.m, 0);
+        let count = lent::holes(case.settings.m as u64, &self.bitmap, &mut self.holes);
+        tally.all_same("holes", &self.holes[..count.unwrap_or(0)], &wanted.holes);
+        let settings = settings(case);
+        self.slots.resize(case.hashes.len(), 0);
+        let looked = lent::lookup_all(&settings, &self.seeds, &case.hashes, &mut self.slots);
+        tally.same("lookup of all", looked, Ok(()));
+        tally.all_same("slots", &self.slots, &wanted.slots);
+        let single = |&hash: &u64| lent::lookup(&settings, &self.seeds, hash);
+        let singles: Result<Vec<Option<u64>>, Error> =
+            case.hashes.iter().step_by(SINGLE).map(single).collect();
+        let singles: Vec<u64> =
+            singles.unwrap_or_default().into_iter().map(|slot| slot.unwrap_or(BUMPED)).collect();
+        tally.all_same("single slots", &singles, &wanted.singles);
+    }
+}
+
+/// A family at the default weights, from its hashes out of order, through the calls that own their memory.
+pub fn compare_owned(case: &Case, bucket_size: f64, wanted: &Wanted, tally: &mut Tally) {
+    let Wanted::Done(wanted) = wanted else { unreachable!("a family may bump") };
+    let s = &case.settings;
+    let builder = Builder::new()
+        .seed_bits(s.seed_bits)
+        .log2_layouts(s.log2_layouts)
+        .log2_slice_len(s.log2_slice_len)
+        .bucket_size(bucket_size)
+        .slots(s.m as u64);
+    let backwards = case.hashes.iter().rev().copied().collect();
+    let level = builder.sweep(backwards).expect("a family lies in the domain");
+    tally.cases += 1;
+    tally.keys += case.hashes.len() as u64;
+    tally.same("settings", level.settings(), settings(case));
+    tally.all_same("counts", &counts_in(level.counts()), &wanted.counts);
+    tally.all_same("seeds", level.seeds(), &wanted.seeds);
+    tally.all_same("bitmap", level.bitmap(), &wanted.bitmap);
+    tally.all_same("holes", &level.holes().collect::<Vec<u32>>(), &wanted.holes);
+    let slots: Vec<u64> =
+        level.lookup_all(&case.hashes).into_iter().map(|slot| slot.unwrap_or(BUMPED)).collect();
+    tally.all_same("slots", &slots, &wanted.slots);
+}
+
+fn settings(case: &Case) -> Settings {
+    let s = &case.settings;
+    Settings {
+        slots: s.m as u64,
+        log2_slice_len: s.log2_slice_len,
+        log2_layouts: s.log2_layouts,
+        seed_bits: s.seed_bits,
+        buckets: s.buckets as u64,
+    }
+}
+
+fn counts_in(counts: Counts) -> [u64; 3] {
+    [counts.placed, counts.bumped, counts.zero]
+}
+
+fn counts_of(level: &Level) -> Counts {
+    let [placed, bumped, zero] = level.counts;
+    Counts { placed, bumped, zero }
+}

@@ -1,0 +1,140 @@
+//! Document 01's numbers as an error.
+
+use std::fmt;
+
+/// Why a call was refused: one of document 01's numbers. [`Error::number`] gives the number, and
+/// its text the number and the document's words.
+///
+/// ```
+/// let error = phastr::lent::bucket_count(10, 100, 0.5).unwrap_err();
+/// assert_eq!(error, phastr::Error::BucketSize);
+/// assert_eq!(error.number(), 16);
+/// assert_eq!(error.to_string(), "refused 16: bucket size not in 1 to min(2^log2_slice_len/8, 64), NaN included");
+/// ```
+#[derive(Clone, Copy, Debug, PartialEq, Eq, Hash)]
+pub enum Error {
+    /// 1: the bits of a seed are outside 2 to 16.
+    SeedBits,
+    /// 2: there are not fewer bits for layouts than for seeds.
+    Layouts,
+    /// 3: log2_slice_len is outside 3 to 16.
+    SliceLen,
+    /// 4: log2_layouts is above 6, or the layouts want more than 64 bits of a hash.
+    LayoutBits,
+    /// 5: the slots are outside 1 to 134,217,728.
+    Slots,
+    /// 6: the buckets are even in number, or more than 67,108,865.
+    Buckets,
+    /// 7: a bucket would span more than 4,096 slices.
+    SlicesPerBucket,
+    /// 8: a weight is beyond ±2^32.
+    Weights,
+    /// 9: the begins do not fit the buckets and hashes, or there are more than 67,108,864 hashes.
+    Begins,
+    /// 10: a bucket has more than 4,096 keys.
+    LargeBucket,
+    /// 11: a hash stands in a bucket that is not its own.
+    StrayHash,
+    /// 12: the logarithm table is too short, or falls.
+    Table,
+    /// 13: seeds, bitmap, work or slots have not the length that is wanted.
+    Lengths,
+    /// 14: bumping is forbidden and no seed fits this bucket.
+    NoSeed {
+        /// The first bucket, in the order of the sweep, that no seed fits.
+        bucket: u64,
+    },
+    /// 15: there are more holes than the buffer takes.
+    HoleBuffer,
+    /// 16: the bucket size is not in 1 to min(2^log2_slice_len/8, 64).
+    BucketSize,
+    /// 17: there are more than 67,108,864 keys.
+    Keys,
+}
+
+impl Error {
+    /// The error of a number that the library came back with; 14 has a bucket.
+    pub(crate) fn of(number: u64, bucket: u64) -> Error {
+        match number {
+            1 => Error::SeedBits,
+            2 => Error::Layouts,
+            3 => Error::SliceLen,
+            4 => Error::LayoutBits,
+            5 => Error::Slots,
+            6 => Error::Buckets,
+            7 => Error::SlicesPerBucket,
+            8 => Error::Weights,
+            9 => Error::Begins,
+            10 => Error::LargeBucket,
+            11 => Error::StrayHash,
+            12 => Error::Table,
+            13 => Error::Lengths,
+            14 => Error::NoSeed { bucket },
+            15 => Error::HoleBuffer,
+            16 => Error::BucketSize,
+            17 => Error::Keys,
+            _ => unreachable!("the library answered {number}, which none of its calls does"),
+        }
+    }
+
+    /// Document 01's number.
+    pub fn number(&self) -> u64 {
+        match self {
+            Error::SeedBits => 1,
+            Error::Layouts => 2,
+            Error::SliceLen => 3,
+            Error::LayoutBits => 4,
+            Error::Slots => 5,
+            Error::Buckets => 6,
+            Error::SlicesPerBucket => 7,
+            Error::Weights => 8,
+            Error::Begins => 9,
+            Error::LargeBucket => 10,
+            Error::StrayHash => 11,
+            Error::Table => 12,
+            Error::Lengths => 13,
+            Error::NoSeed { .. } => 14,
+            Error::HoleBuffer => 15,
+            Error::BucketSize => 16,
+            Error::Keys => 17,
+        }
+    }
+
+    /// Document 01's words for the number.
+    pub fn words(&self) -> &'static str {
+        WORDS[self.number() as usize - 1]
+    }
+}
+
+/// The words of the numbers from 1 on.
+const WORDS: [&str; 17] = [
+    "sb outside 2..16",
+    "ll ≥ sb",
+    "log2_slice_len outside 3..16",
+    "ll > 6, or log2_slice_len·2^ll > 64",
+    "m outside 1..134,217,728",
+    "B even or above 67,108,865 (0 is even)",
+    "p > 4,096",
+    "a weight beyond ±2^32",
+    "begins not B+1 long, not starting at 0, falling, or not ending at the hash count; or more than 67,108,864 hashes",
+    "a bucket of more than 4,096 keys",
+    "a hash outside its bucket",
+    "table too short, or falling within the entries needed",
+    "seeds not B long, bitmap not ceil(m/64) long, or work under W",
+    "bumping forbidden and the bucket taken gets 0",
+    "hole list longer than its buffer",
+    "bucket size not in 1 to min(2^log2_slice_len/8, 64), NaN included",
+    "k above 67,108,864",
+];
+
+impl fmt::Display for Error {
+    fn fmt(&self, f: &mut fmt::Formatter<'_>) -> fmt::Result {
+        write!(f, "refused {}: {}", self.number(), self.words())?;
+        match self {
+            Error::NoSeed { bucket } => write!(f, " (bucket {bucket})"),
+            _ => Ok(()),
+        }
+    }
+}
+
+impl std::error::Error for Error {}

@@ -1,0 +1,138 @@
+//! The library's calls over memory that the caller lends, so that it can be used again.
+//!
+//! A call that is refused has written nothing, but for 14, which leaves seeds, bitmap and work zero.
+//!
+//! ```
+//! use phastr::{Groups, Settings, lent};
+//!
+//! let settings = Settings { slots: 7, log2_slice_len: 3, log2_layouts: 0, seed_bits: 4, buckets: 3 };
+//! let groups = Groups::new(3, vec![1 << 62, (1 << 62) + 3, 1 << 63])?;
+//! let sizes = lent::sizes(&settings, groups.largest())?;
+//! let table = phastr::log_table(sizes.table);
+//! let (mut seeds, mut bitmap, mut work) = (vec![0; 3], vec![0; sizes.bitmap], vec![0; sizes.work]);
+//!
+//! let input = lent::Input {
+//!     settings,
+//!     weights: [2048, 0, 0, 0, 0, 0, 0],
+//!     bump: true,
+//!     hashes: groups.hashes(),
+//!     begins: groups.begins(),
+//!     table: &table,
+//! };
+//! let output = lent::Output { seeds: &mut seeds, bitmap: &mut bitmap, work: &mut work };
+//! let counts = lent::sweep(&input, output)?;
+//! assert_eq!((counts.placed, counts.bumped, counts.zero), (3, 0, 1));
+//! assert_eq!(seeds, [3, 4, 0]);
+//!
+//! let mut holes = [0; 7];
+//! assert_eq!(lent::holes(7, &bitmap, &mut holes)?, 4);
+//! assert_eq!(holes[..4], [0, 3, 5, 6]);
+//! assert_eq!(lent::lookup(&settings, &seeds, 1 << 63)?, Some(2));
+//! # Ok::<(), phastr::Error>(())
+//! ```
+
+use crate::{BUMPED, Counts, Error, Settings, raw};
+
+/// What a sweep reads.
+#[derive(Clone, Copy, Debug)]
+pub struct Input<'a> {
+    /// The level's settings.
+    pub settings: Settings,
+    /// The weights of buckets of one to seven keys, each within ±2^32
+    /// ([`default_weights`](crate::default_weights) has PHastR's).
+    pub weights: [i64; 7],
+    /// Whether a bucket that no seed fits is bumped. If not, it ends the sweep with 14.
+    pub bump: bool,
+    /// The hashes, bucket after bucket ([`Groups`](crate::Groups) brings them into that order).
+    pub hashes: &'a [u64],
+    /// Where each bucket begins among the hashes, and at last how many there are: B + 1 numbers.
+    pub begins: &'a [u32],
+    /// A logarithm table ([`house_table`](crate::house_table), [`log_table`](crate::log_table)), of
+    /// at least as many entries as [`sizes`] says.
+    pub table: &'a [u32],
+}
+
+/// What a sweep writes. What was there before does not matter.
+#[derive(Debug)]
+pub struct Output<'a> {
+    /// One seed to a bucket; 0 where the bucket is empty or was bumped.
+    pub seeds: &'a mut [u16],
+    /// Slot i is bit i mod 64 of word i / 64, set where a key took the slot.
+    pub bitmap: &'a mut [u64],
+    /// Room to work in, at least as many words as [`sizes`] says. That many are zero afterwards,
+    /// and those beyond are kept.
+    pub work: &'a mut [u64],
+}
+
+/// What a sweep wants lent.
+#[derive(Clone, Copy, Debug, PartialEq, Eq, Hash)]
+pub struct Sizes {
+    /// The least number of words of work (W).
+    pub work: usize,
+    /// The least number of entries of the logarithm table.
+    pub table: usize,
+    /// The words of the bitmap, no more and no less.
+    pub bitmap: usize,
+}
+
+fn answer<T>(number: u64, value: T) -> Result<T, Error> {
+    if number == 0 { Ok(value) } else { Err(Error::of(number, 0)) }
+}
+
+/// What a sweep wants lent if its largest bucket has so many keys. Refused: 1 to 7, and 10.
+pub fn sizes(settings: &Settings, largest: u64) -> Result<Sizes, Error> {
+    let mut sizes = [0; 3];
+    let number = raw::sizes(settings, largest, &mut sizes);
+    let [work, table, bitmap] = sizes.map(|n| n as usize);
+    answer(number, Sizes { work, table, bitmap })
+}
+
+/// Sweeps a level. Refused: 1 to 14, the first that applies.
+pub fn sweep(input: &Input, output: Output) -> Result<Counts, Error> {
+    let (mut counts, mut bucket) = ([0; 3], 0);
+    match raw::sweep(input, output, &mut counts, &mut bucket) {
+        0 => {
+            let [placed, bumped, zero] = counts;
+            Ok(Counts { placed, bumped, zero })
+        }
+        number => Err(Error::of(number, bucket)),
+    }
+}
+
+/// Writes the unmarked ones of so many slots, ascending, to the front of `out` and answers how many
+/// there are. Refused: 5, 13 and 15.
+pub fn holes(slots: u64, bitmap: &[u64], out: &mut [u32]) -> Result<usize, Error> {
+    let mut count = 0;
+    let number = raw::holes(slots, bitmap, out, &mut count);
+    answer(number, count as usize)
+}
+
+/// The slot of a hash, or none where its bucket was bumped. A hash that was no key gets some slot
+/// too. Refused: 1 to 6, and 13 where there is not one seed to a bucket.
+pub fn lookup(settings: &Settings, seeds: &[u16], hash: u64) -> Result<Option<u64>, Error> {
+    let mut slot = 0;
+    let number = raw::lookup(settings, seeds, hash, &mut slot);
+    answer(number, (slot != BUMPED).then_some(slot))
+}
+
+/// Writes the slot of each hash, or [`BUMPED`], to its place in `slots`. Refused: as [`lookup`], and
+/// 13 also where there are not as many slots as hashes.
+pub fn lookup_all(
+    settings: &Settings,
+    seeds: &[u16],
+    hashes: &[u64],
+    slots: &mut [u64],
+) -> Result<(), Error> {
+    answer(raw::positions(settings, seeds, hashes, slots), ())
+}
+
+/// How many buckets so many keys get at an expected bucket size. Refused: 3, 16 and 17.
+///
+/// ```
+/// assert_eq!(phastr::lent::bucket_count(10, 1000, 4.25), Ok(235));
+/// ```
+pub fn bucket_count(log2_slice_len: u32, keys: u64, size: f64) -> Result<u64, Error> {
+    let mut count = 0;
+    let number = raw::bucket_count(log2_slice_len, keys, size, &mut count);
+    answer(number, count)
+}

@@ -1,0 +1,138 @@
+//! A level that owns its memory.
+
+use crate::lent::{self, Input, Output};
+use crate::table::HOUSE_ENTRIES;
+use crate::{BUMPED, Counts, Error, Groups, Settings, house_table, log_table};
+
+/// The keys of the largest bucket that a sweep takes.
+const LARGEST_BUCKET: u64 = 4096;
+
+/// A swept level: a seed for each bucket, and which slots are taken.
+#[derive(Clone, Debug, PartialEq, Eq)]
+pub struct Level {
+    settings: Settings,
+    seeds: Vec<u16>,
+    bitmap: Vec<u64>,
+    counts: Counts,
+}
+
+impl Level {
+    /// Sweeps grouped hashes. Refused: 1 to 11, and 14 where bumping is forbidden.
+    ///
+    /// ```
+    /// use phastr::{Groups, Level, Settings, default_weights};
+    ///
+    /// let groups = Groups::new(5, (0..20).map(|i| i << 59).collect())?;
+    /// let level = Level::sweep(Settings::new(24, 5), default_weights(8), true, &groups)?;
+    /// assert_eq!(level.seeds().len(), 5);
+    /// # Ok::<(), phastr::Error>(())
+    /// ```
+    pub fn sweep(
+        settings: Settings,
+        weights: [i64; 7],
+        bump: bool,
+        groups: &Groups,
+    ) -> Result<Level, Error> {
+        // A larger bucket is the sweep's to refuse, once it has come to check 10.
+        let sizes = lent::sizes(&settings, groups.largest().min(LARGEST_BUCKET))?;
+        let table = if sizes.table <= HOUSE_ENTRIES {
+            house_table().to_vec()
+        } else {
+            log_table(sizes.table)
+        };
+        let mut seeds = vec![0; settings.buckets as usize];
+        let mut bitmap = vec![0; sizes.bitmap];
+        let mut work = vec![0; sizes.work];
+        let (hashes, begins) = (groups.hashes(), groups.begins());
+        let input = Input { settings, weights, bump, hashes, begins, table: &table };
+        let output = Output { seeds: &mut seeds, bitmap: &mut bitmap, work: &mut work };
+        let counts = lent::sweep(&input, output)?;
+        Ok(Level { settings, seeds, bitmap, counts })
+    }
+
+    /// The slot of a hash, or none where its bucket was bumped. A hash that was no key gets some
+    /// slot too.
+    pub fn lookup(&self, hash: u64) -> Option<u64> {
+        lent::lookup(&self.settings, &self.seeds, hash).expect("a swept level is sound")
+    }
+
+    /// The slot of each hash, or none where its bucket was bumped.
+    pub fn lookup_all(&self, hashes: &[u64]) -> Vec<Option<u64>> {
+        let mut slots = vec![0; hashes.len()];
+        self.lookup_into(hashes, &mut slots).expect("there are as many slots as hashes");
+        slots.into_iter().map(|slot| (slot != BUMPED).then_some(slot)).collect()
+    }
+
+    /// Writes the slot of each hash, or [`BUMPED`], to its place in `slots`. Refused: 13 where there
+    /// are not as many slots as hashes.
+    pub fn lookup_into(&self, hashes: &[u64], slots: &mut [u64]) -> Result<(), Error> {
+        lent::lookup_all(&self.settings, &self.seeds, hashes, slots)
+    }
+
+    /// The slots that no key took, ascending.
+    pub fn holes(&self) -> Holes {
+        let taken: u64 = self.bitmap.iter().map(|word| u64::from(word.count_ones())).sum();
+        let mut list = vec![0; (self.settings.slots - taken) as usize];
+        let count = lent::holes(self.settings.slots, &self.bitmap, &mut list);
+        debug_assert_eq!(count, Ok(list.len()));
+        Holes(list.into_iter())
+    }
+
+    /// Whether a key took the slot. No key takes a slot that the level has not.
+    pub fn is_taken(&self, slot: u64) -> bool {
+        let word = self.bitmap.get((slot / 64) as usize);
+        word.is_some_and(|word| word >> (slot % 64) & 1 == 1)
+    }
+
+    /// How many keys were placed and bumped, and how many seeds are 0.
+    pub fn counts(&self) -> Counts {
+        self.counts
+    }
+
+    /// The settings that the level was swept with.
+    pub fn settings(&self) -> Settings {
+        self.settings
+    }
+
+    /// One seed to a bucket; 0 where the bucket is empty or was bumped.
+    pub fn seeds(&self) -> &[u16] {
+        &self.seeds
+    }
+
+    /// Slot i is bit i mod 64 of word i / 64, set where a key took the slot. Other bits are 0.
+    pub fn bitmap(&self) -> &[u64] {
+        &self.bitmap
+    }
+
+    /// The seeds and the bitmap. The settings and the seeds are all that
+    /// [`lent::lookup`] asks for.
+    pub fn into_parts(self) -> (Vec<u16>, Vec<u64>) {
+        (self.seeds, self.bitmap)
+    }
+}
+
+/// The slots that no key took, ascending ([`Level::holes`]).
+#[derive(Clone, Debug)]
+pub struct Holes(std::vec::IntoIter<u32>);
+
+impl Iterator for Holes {
+    type Item = u32;
+
+    fn next(&mut self) -> Option<u32> {
+        self.0.next()
+    }
+
+    fn size_hint(&self) -> (usize, Option<usize>) {
+        self.0.size_hint()
+    }
+}
+
+impl DoubleEndedIterator for Holes {
+    fn next_back(&mut self) -> Option<u32> {
+        self.0.next_back()
+    }
+}
+
+impl ExactSizeIterator for Holes {}
+
+impl std::iter::FusedIterator for Holes {}

@@ -1,0 +1,225 @@
+/*
+ * Two levels by way of the library: document 01's listing, and some thousand generated keys.
+ *
+ *   folder=$(tools/library)
+ *   cc -std=c99 -Wall -Wextra -Werror -Iinclude examples/c/level.c "$folder/libexports.a" -o level
+ *   ./level
+ */
+#include <inttypes.h>
+#include <stdio.h>
+#include <stdlib.h>
+
+#include "phastr.h"
+
+/* The settings of a level, as the calls take them. */
+struct settings {
+    uint64_t m, log2_slice_len, ll, sb, buckets;
+};
+
+/* All that a sweep reads and writes. */
+struct level {
+    struct settings s;
+    uint64_t *hashes;
+    uint32_t *begins;
+    uint64_t keys, largest;
+    uint16_t *seeds;
+    uint64_t *bitmap;
+    uint64_t bitmap_words;
+    uint64_t counts[3];
+};
+
+static void fail(const char *what, uint64_t number) {
+    fprintf(stderr, "%s: refused %" PRIu64 "\n", what, number);
+    exit(1);
+}
+
+/* Memory for count elements, never null: a call wants a good pointer for an empty slice too. */
+static void *room(uint64_t count, size_t size) {
+    void *memory = calloc(count > 0 ? (size_t)count : 1, size);
+    if (memory == NULL) {
+        fputs("no memory\n", stderr);
+        exit(1);
+    }
+    return memory;
+}
+
+/* The high half of a 128-bit product, by halves of the hash. buckets is below 2^27. */
+static uint64_t bucket_of(uint64_t hash, uint64_t buckets) {
+    uint64_t low = (hash & 0xFFFFFFFF) * buckets;
+    uint64_t high = (hash >> 32) * buckets;
+    return (high + (low >> 32)) >> 32;
+}
+
+static int ascending(const void *a, const void *b) {
+    uint64_t x = *(const uint64_t *)a, y = *(const uint64_t *)b;
+    return (x > y) - (x < y);
+}
+
+/* Groups the hashes by bucket: sorted they stand bucket after bucket, and begins counts them. */
+static void group(struct level *level) {
+    qsort(level->hashes, (size_t)level->keys, sizeof *level->hashes, ascending);
+    level->begins = room(level->s.buckets + 1, sizeof *level->begins);
+    for (uint64_t i = 0; i < level->keys; i++)
+        level->begins[bucket_of(level->hashes[i], level->s.buckets) + 1]++;
+    for (uint64_t b = 0; b < level->s.buckets; b++) {
+        if (level->begins[b + 1] > level->largest)
+            level->largest = level->begins[b + 1];
+        level->begins[b + 1] += level->begins[b];
+    }
+}
+
+/* Finds out what the sweep wants lent, lends it, and sweeps. */
+static void sweep(struct level *level, const int64_t weights[7]) {
+    const struct settings s = level->s;
+    uint64_t sizes[3] = {0}, bucket = 0, number;
+    number = phastr_sizes(s.m, s.log2_slice_len, s.ll, s.sb, s.buckets, level->largest, sizes);
+    if (number != PHASTR_OK)
+        fail("sizes", number);
+    level->bitmap_words = sizes[2];
+    level->seeds = room(s.buckets, sizeof *level->seeds);
+    level->bitmap = room(sizes[2], sizeof *level->bitmap);
+    uint64_t *work = room(sizes[0], sizeof *work);
+    uint32_t *table = room(PHASTR_HOUSE_ENTRIES, sizeof *table);
+    phastr_house_table(table);
+    number = phastr_sweep(s.m, s.log2_slice_len, s.ll, s.sb, s.buckets, weights, true, level->hashes,
+                          (size_t)level->keys, level->begins, (size_t)s.buckets + 1, table,
+                          PHASTR_HOUSE_ENTRIES, level->seeds, (size_t)s.buckets, level->bitmap,
+                          (size_t)sizes[2], work, (size_t)sizes[0], level->counts, &bucket);
+    if (number != PHASTR_OK)
+        fail("sweep", number);
+    free(table);
+    free(work);
+}
+
+/* Lists the holes: as many as slots that no key took. */
+static uint32_t *holes(const struct level *level, uint64_t *count) {
+    uint64_t free_slots = level->s.m - level->counts[0];
+    uint32_t *list = room(free_slots, sizeof *list);
+    uint64_t number = phastr_holes(level->s.m, level->bitmap, (size_t)level->bitmap_words, list,
+                                   (size_t)free_slots, count);
+    if (number != PHASTR_OK)
+        fail("holes", number);
+    return list;
+}
+
+static uint64_t lookup(const struct level *level, uint64_t hash) {
+    const struct settings s = level->s;
+    uint64_t slot = 0, number;
+    number = phastr_lookup(s.m, s.log2_slice_len, s.ll, s.sb, s.buckets, level->seeds,
+                           (size_t)s.buckets, hash, &slot);
+    if (number != PHASTR_OK)
+        fail("lookup", number);
+    return slot;
+}
+
+static void print_list(const struct level *level) {
+    uint64_t count = 0;
+    uint32_t *list = holes(level, &count);
+    printf("sweep %" PRIu64 " %" PRIu64 " %" PRIu64, level->s.m, level->s.buckets, level->keys);
+    printf(" %" PRIu64 " %" PRIu64 " %" PRIu64 " %" PRIu64 "\n", level->counts[0],
+           level->counts[1], level->counts[2], count);
+    for (uint64_t b = 0; b < level->s.buckets; b++)
+        printf("bucket %" PRIu64 " %" PRIu32 " %" PRIu16 "\n", b,
+               level->begins[b + 1] - level->begins[b], level->seeds[b]);
+    for (uint64_t i = 0; i < count; i++)
+        printf("hole %" PRIu32 "\n", list[i]);
+    free(list);
+}
+
+static void let_go(struct level *level) {
+    free(level->hashes);
+    free(level->begins);
+    free(level->seeds);
+    free(level->bitmap);
+}
+
+/* Document 01's listing. */
+static void listing(void) {
+    static const int64_t weights[7] = {2048, 0, 0, 0, 0, 0, 0};
+    static const uint64_t keys[3] = {(uint64_t)1 << 62, ((uint64_t)1 << 62) + 3, (uint64_t)1 << 63};
+    struct level level = {.s = {7, 3, 0, 4, 3}, .keys = 3};
+    level.hashes = room(3, sizeof *level.hashes);
+    for (int i = 0; i < 3; i++)
+        level.hashes[i] = keys[i];
+    group(&level);
+    sweep(&level, weights);
+    print_list(&level);
+    let_go(&level);
+}
+
+/* A number that is spread like a hash (splitmix64). */
+static uint64_t spread(uint64_t i) {
+    uint64_t x = i * 0x9E3779B97F4A7C15;
+    x = (x ^ (x >> 30)) * 0xBF58476D1CE4E5B9;
+    x = (x ^ (x >> 27)) * 0x94D049BB133111EB;
+    return x ^ (x >> 31);
+}
+
+/* Looks each key up, together and by itself. Answers how many were bumped; each other must have a
+ * marked slot of its own. */
+static uint64_t look_up_all(const struct level *level) {
+    const struct settings s = level->s;
+    uint64_t *slots = room(level->keys, sizeof *slots), bumped = 0;
+    unsigned char *seen = room(s.m, 1);
+    uint64_t number =
+        phastr_positions(s.m, s.log2_slice_len, s.ll, s.sb, s.buckets, level->seeds,
+                         (size_t)s.buckets, level->hashes, (size_t)level->keys, slots,
+                         (size_t)level->keys);
+    if (number != PHASTR_OK)
+        fail("positions", number);
+    for (uint64_t i = 0; i < level->keys; i++) {
+        uint64_t slot = lookup(level, level->hashes[i]);
+        if (slot != slots[i])
+            fail("a key with two answers", slot);
+        if (slot == PHASTR_BUMPED) {
+            bumped++;
+            continue;
+        }
+        if (slot >= s.m || seen[slot] || !(level->bitmap[slot / 64] >> (slot % 64) & 1))
+            fail("a slot that is not the key's own", slot);
+        seen[slot] = 1;
+    }
+    free(seen);
+    free(slots);
+    return bumped;
+}
+
+/* Some thousand keys at PHastR's defaults: as many slots as keys, buckets of 4.25 keys. */
+static void generated(uint64_t keys) {
+    static const int64_t weights[7] = {-52000, 53315, 105861, 138629, 156944, 175176, 186591};
+    struct level level = {.s = {keys, 10, 2, 8, 0}, .keys = keys};
+    uint64_t number = phastr_bucket_count(10, keys, 4.25, &level.s.buckets), count = 0;
+    if (number != PHASTR_OK)
+        fail("bucket count", number);
+    level.hashes = room(keys, sizeof *level.hashes);
+    for (uint64_t i = 0; i < keys; i++)
+        level.hashes[i] = spread(i + 1);
+    group(&level);
+    sweep(&level, weights);
+    free(holes(&level, &count));
+    uint64_t bumped = look_up_all(&level);
+    if (bumped != level.counts[1] || level.counts[0] + bumped != keys || count != bumped)
+        fail("counts", bumped);
+    printf("%" PRIu64 " keys in %" PRIu64 " buckets: %" PRIu64 " placed, %" PRIu64
+           " bumped, %" PRIu64 " buckets of seed 0, %" PRIu64 " holes\n",
+           keys, level.s.buckets, level.counts[0], bumped, level.counts[2], count);
+    let_go(&level);
+}
+
+/* Numbers and slices that are refused: nothing is written. */
+static void refused(void) {
+    uint16_t seeds[2] = {1, 1};
+    uint64_t slot = 77, number = phastr_lookup(7, 3, 0, 4, 3, seeds, 2, 0, &slot);
+    printf("refused %" PRIu64 ", slot kept at %" PRIu64 "\n", number, slot);
+    uint64_t count = 77;
+    number = phastr_bucket_count(10, 100, 64.5, &count);
+    printf("refused %" PRIu64 ", count kept at %" PRIu64 "\n", number, count);
+}
+
+int main(void) {
+    listing();
+    generated(1);
+    generated(5000);
+    refused();
+    return 0;
+}

@@ -1,0 +1,166 @@
+/*
+ * PHastR's sweep of one level, proved in Rattle, for C and C++.
+ *
+ * PHastR is a minimal perfect hash function. It is built in levels, and these calls make one: the
+ * keys' 64-bit hashes fall into buckets, and each bucket gets the seed that puts its keys on free
+ * slots at the least cost. A bucket that no seed fits is bumped, its keys being left to another
+ * level; slots that no key took are holes. examples/c/level.c shows the whole way.
+ *
+ * Link libexports.a (tools/library makes it); it needs no other library.
+ *
+ * Settings. Every call takes the level's settings in this order:
+ *   m               slots: 1 to 2^27
+ *   log2_slice_len  3 to 16 (PHastR's default 10); small levels have shorter slices
+ *   ll              the base-2 logarithm of the layouts: below sb, and log2_slice_len * 2^ll at most
+ *                   64 (default 2)
+ *   sb              bits of a seed: 2 to 16 (default 8)
+ *   buckets         B: odd, at most 67,108,865
+ * A hash's bucket is the high half of the 128-bit product of hash and B.
+ *
+ * Answers. Every call but phastr_house_table answers 0 or one of the numbers below, the first that
+ * applies in the order in which the call names them. It writes only what its comment names, and
+ * only where it answers 0; phastr_sweep also writes at 14.
+ *
+ * What a caller owes. Whatever the numbers and the contents of slices are, a call comes back and
+ * keeps to what it was lent. The pointers themselves cannot be checked, so the caller sees to it
+ * that
+ *   - each pointer is not null and is aligned for its type, also where the length is 0;
+ *   - it is good for as many elements as the length (a number of elements, not of bytes) or the
+ *     array's size in the declaration says, and these have been written before;
+ *   - nothing that is lent for writing (a pointer to what is not const) overlaps anything else that
+ *     is lent to the same call;
+ *   - no other thread writes what is lent, or reads what is lent for writing, during the call.
+ * The calls keep nothing between them and allocate nothing. They may run at the same time on
+ * different memory.
+ */
+#ifndef PHASTR_H
+#define PHASTR_H
+
+#include <stdbool.h>
+#include <stddef.h>
+#include <stdint.h>
+
+#ifdef __cplusplus
+extern "C" {
+#endif
+
+/* The numbers of document 01, and its words. 18 and 19 are the sweep list program's alone. */
+enum phastr_number {
+    PHASTR_OK = 0,
+    PHASTR_SEED_BITS = 1,          /* sb outside 2..16 */
+    PHASTR_LAYOUTS = 2,            /* ll >= sb */
+    PHASTR_SLICE_LEN = 3,          /* log2_slice_len outside 3..16 */
+    PHASTR_LAYOUT_BITS = 4,        /* ll > 6, or log2_slice_len * 2^ll > 64 */
+    PHASTR_SLOTS = 5,              /* m outside 1..134,217,728 */
+    PHASTR_BUCKETS = 6,            /* B even or above 67,108,865 (0 is even) */
+    PHASTR_SLICES_PER_BUCKET = 7,  /* p > 4,096, where p = ceil((m + 1 - l) / B), l the slice length */
+    PHASTR_WEIGHTS = 8,            /* a weight beyond +-2^32 */
+    PHASTR_BEGINS = 9,             /* begins not B+1 long, not starting at 0, falling, or not ending at
+                                      the hash count; or more than 67,108,864 hashes */
+    PHASTR_LARGE_BUCKET = 10,      /* a bucket of more than 4,096 keys */
+    PHASTR_STRAY_HASH = 11,        /* a hash outside its bucket */
+    PHASTR_TABLE = 12,             /* table too short, or falling within the entries needed */
+    PHASTR_LENGTHS = 13,           /* seeds not B long, bitmap not ceil(m/64) long, or work under W */
+    PHASTR_NO_SEED = 14,           /* bumping forbidden and the bucket taken gets 0 */
+    PHASTR_HOLE_BUFFER = 15,       /* hole list longer than its buffer */
+    PHASTR_BUCKET_SIZE = 16,       /* bucket size not in 1 to min(2^log2_slice_len/8, 64), NaN included */
+    PHASTR_KEYS = 17               /* k above 67,108,864 */
+};
+
+/* The slot of a hash whose bucket has seed 0: it was bumped, or is empty. */
+#define PHASTR_BUMPED UINT64_MAX
+
+/* The entries of the house table. */
+#define PHASTR_HOUSE_ENTRIES 2048
+
+/*
+ * How many buckets so many keys get at an expected bucket size (PHastR's default 4.25): keys / size,
+ * rounded to the nearest whole number with halves upward, at least 1, and one more if even.
+ *
+ * Answers 0, 3, 16 or 17. At 0, *count is the number of buckets.
+ */
+uint64_t phastr_bucket_count(uint64_t log2_slice_len, uint64_t keys, double size, uint64_t *count);
+
+/*
+ * What a sweep wants lent if its largest bucket has z keys.
+ *
+ * Answers 0, 1 to 7, or 10 where z is above 4,096. At 0, sizes[0] is the least number of words of
+ * work (W), sizes[1] the least number of entries of the table, and sizes[2] the words of the bitmap.
+ */
+uint64_t phastr_sizes(uint64_t m, uint64_t log2_slice_len, uint64_t ll, uint64_t sb,
+                      uint64_t buckets, uint64_t z, uint64_t sizes[3]);
+
+/*
+ * Writes the house table of logarithms: entry d is 2^24 * log2(d), rounded to nearest, and entry 0
+ * is 0. It is long enough for slices of up to 1,024 slots where p (see 7) is at most 928; where
+ * phastr_sizes asks for more, lend a longer table that goes on by the same rule.
+ */
+void phastr_house_table(uint32_t table[PHASTR_HOUSE_ENTRIES]);
+
+/*
+ * Sweeps a level: finds a seed for each bucket.
+ *
+ *   weights  of buckets of 1 to 7 keys, each within +-2^32: a heavier bucket is taken earlier.
+ *            PHastR's for at most 8 bits of a seed: -52000, 53315, 105861, 138629, 156944, 175176,
+ *            186591; for more: 46000, 55041, 137806, 184081, 217321, 241846, 256427.
+ *   bump     whether a bucket that no seed fits is bumped. If not, it ends the sweep with 14.
+ *   hashes   bucket after bucket, in any order within one. Sorted hashes stand so.
+ *   begins   B + 1 numbers: bucket b's hashes are those from begins[b] to before begins[b + 1].
+ *   table    of logarithms (phastr_house_table, phastr_sizes).
+ *   seeds    B of them; bitmap: ceil(m/64) words; work: at least W words (phastr_sizes). What they
+ *            hold before does not matter.
+ *
+ * Answers 0 or 1 to 14.
+ * At 0, seeds has one seed to a bucket, 0 for one that is empty or was bumped; bitmap has slot i at
+ * bit i mod 64 of word i / 64, set where a key took the slot, and its bits from m on are 0;
+ * counts[0] is the keys placed, counts[1] the keys bumped and counts[2] the buckets of seed 0. The
+ * first W words of work are 0, those beyond are kept, and *bucket is kept.
+ * At 14, *bucket is the first bucket, in the order of the sweep, that no seed fits; seeds, bitmap
+ * and the first W words of work are 0, and counts and work beyond are kept.
+ */
+uint64_t phastr_sweep(uint64_t m, uint64_t log2_slice_len, uint64_t ll, uint64_t sb,
+                      uint64_t buckets, const int64_t weights[7], bool bump,
+                      const uint64_t *hashes, size_t hashes_len,
+                      const uint32_t *begins, size_t begins_len,
+                      const uint32_t *table, size_t table_len,
+                      uint16_t *seeds, size_t seeds_len,
+                      uint64_t *bitmap, size_t bitmap_len,
+                      uint64_t *work, size_t work_len,
+                      uint64_t counts[3], uint64_t *bucket);
+
+/*
+ * Lists the slots below m that are not marked in a bitmap. Bits from m on are passed over.
+ *
+ * Answers 0, 5, 13 where the bitmap is not ceil(m/64) words long, or 15. At 0, *count is how many
+ * holes there are, and they stand, ascending, at the front of out; out beyond them is kept. There
+ * are m - counts[0] after a sweep.
+ */
+uint64_t phastr_holes(uint64_t m, const uint64_t *bitmap, size_t bitmap_len,
+                      uint32_t *out, size_t out_len, uint64_t *count);
+
+/*
+ * Looks a hash up. A hash that was no key gets some slot too.
+ *
+ * Answers 0, 1 to 6, or 13 where there is not one seed to a bucket. At 0, *slot is the slot of the
+ * hash, or PHASTR_BUMPED.
+ */
+uint64_t phastr_lookup(uint64_t m, uint64_t log2_slice_len, uint64_t ll, uint64_t sb,
+                       uint64_t buckets, const uint16_t *seeds, size_t seeds_len,
+                       uint64_t hash, uint64_t *slot);
+
+/*
+ * Looks hashes up in one call.
+ *
+ * Answers as phastr_lookup, and 13 also where there are not as many slots as hashes. At 0, slots[i]
+ * is the slot of hashes[i], or PHASTR_BUMPED.
+ */
+uint64_t phastr_positions(uint64_t m, uint64_t log2_slice_len, uint64_t ll, uint64_t sb,
+                          uint64_t buckets, const uint16_t *seeds, size_t seeds_len,
+                          const uint64_t *hashes, size_t hashes_len,
+                          uint64_t *slots, size_t slots_len);
+
+#ifdef __cplusplus
+}
+#endif
+
+#endif
