@@ -1,140 +1,80 @@
-//! One job of one side, to be timed or to have its instructions counted.
+//! Our sweep, lookups and holes beside PHastR's own, in one process. `bench/run` is the command for a
+//! person; the words here are what it uses.
 //!
-//!     bench time
-//!     bench run SIDE JOB SETTING KEYS REPEATS
+//!     bench names                          the settings, one to a line
+//!     bench times KEYS                     nanoseconds a key of each job and setting, both sides
+//!     bench once SIDE JOB SETTING KEYS     one job of one side, for its instructions to be counted; with the
+//!                                          side 'neither' all but the job
 
-use oracle::{Case, cases, figures, holes, log2_table, lookups, swept};
-use std::hint::black_box;
+mod jobs;
+mod settings;
+
+use jobs::{Bench, JOBS, Job};
+use settings::Named;
+use std::process::ExitCode;
 use std::time::Instant;
 
-#[allow(clippy::too_many_arguments)]
-unsafe extern "C" {
-    fn phastr_sweep(
-        m: u64,
-        log2_slice_len: u64,
-        ll: u64,
-        sb: u64,
-        buckets: u64,
-        weights: *const [i64; 7],
-        bump: bool,
-        hashes: *const u64,
-        hashes_len: usize,
-        begins: *const u32,
-        begins_len: usize,
-        table: *const u32,
-        table_len: usize,
-        seeds: *mut u16,
-        seeds_len: usize,
-        bitmap: *mut u64,
-        bitmap_len: usize,
-        work: *mut u64,
-        work_len: usize,
-        counts: *mut [u64; 3],
-        bucket: *mut u64,
-    ) -> u64;
+/// The best of a few runs, in nanoseconds.
+fn best(mut run: impl FnMut()) -> f64 {
+    let timed = |_| {
+        let start = Instant::now();
+        run();
+        start.elapsed().as_nanos() as f64
+    };
+    (0..5).map(timed).fold(f64::INFINITY, f64::min)
 }
 
-struct Named {
-    name: &'static str,
-    setting: cases::Setting,
-    size: f64,
-}
-
-const SETTINGS: [Named; 7] = [
-    Named { name: "default", setting: (10, 2, 8), size: 4.25 },
-    Named { name: "n64", setting: (6, 0, 8), size: 4.25 },
-    Named { name: "sb10", setting: (11, 2, 10), size: 5.75 },
-    Named { name: "sb12", setting: (12, 2, 12), size: 6.0 },
-    Named { name: "ll0", setting: (10, 0, 8), size: 4.25 },
-    Named { name: "ll4", setting: (4, 4, 8), size: 2.0 },
-    Named { name: "tiny", setting: (3, 0, 4), size: 1.0 },
-];
-
-struct Ours {
-    table: Vec<u32>,
-    seeds: Vec<u16>,
-    bitmap: Vec<u64>,
-    work: Vec<u64>,
-}
-
-impl Ours {
-    fn new(case: &Case) -> Ours {
-        let f = figures(&case.settings);
-        Ours {
-            table: log2_table(f.table_entries),
-            seeds: vec![0; case.settings.buckets],
-            bitmap: vec![0; case.settings.m.div_ceil(64)],
-            work: vec![0; f.work_words(case.largest())],
+/// Times each job on each of the settings, after seeing that both sides give the same.
+fn times(keys: usize) -> Result<(), String> {
+    for named in &settings::ALL {
+        let mut bench = Bench::new(named.family(keys), Job::Holes);
+        if !bench.same() {
+            return Err(format!("{} {keys}: the two sides differ", named.name));
+        }
+        for (name, job) in JOBS.into_iter().filter(|&(_, job)| job != Job::Checks) {
+            let ours = best(|| bench.ours(job)) / keys as f64;
+            let rust = best(|| bench.rust(job)) / keys as f64;
+            println!("{name} {} {keys} {ours:.2} {rust:.2}", named.name);
         }
     }
-
-    fn sweep(&mut self, case: &Case) -> [u64; 3] {
-        let s = &case.settings;
-        let (mut counts, mut bucket) = ([0; 3], 0);
-        let number = unsafe {
-            phastr_sweep(
-                s.m as u64,
-                s.log2_slice_len as u64,
-                s.log2_layouts as u64,
-                s.seed_bits as u64,
-                s.buckets as u64,
-                &case.weights,
-                case.bump,
-                case.hashes.as_ptr(),
-                case.hashes.len(),
-                case.begins.as_ptr(),
-                case.begins.len(),
-                self.table.as_ptr(),
-                self.table.len(),
-                self.seeds.as_mut_ptr(),
-                self.seeds.len(),
-                self.bitmap.as_mut_ptr(),
-                self.bitmap.len(),
-                self.work.as_mut_ptr(),
-                self.work.len(),
-                &mut counts,
-                &mut bucket,
-            )
-        };
-        assert_eq!(number, 0);
-        counts
-    }
+    Ok(())
 }
 
-fn main() {
-    if std::env::var_os("BENCH_ADDRESS").is_some() {
-        eprintln!("address {:x}", phastr_sweep as *const () as usize);
+fn once(side: &str, job: &str, setting: &str, keys: usize) -> Result<(), String> {
+    let (_, job) = *JOBS.iter().find(|(name, _)| *name == job).ok_or("no such job")?;
+    let named = Named::find(setting).ok_or("no such settings")?;
+    let mut bench = Bench::new(named.family(keys), job);
+    match side {
+        "ours" => bench.ours(job),
+        "rust" => bench.rust(job),
+        "neither" => {}
+        _ => return Err(format!("no side {side}")),
     }
-    let words: Vec<String> = std::env::args().skip(1).collect();
-    let side = &words[0];
-    let named = SETTINGS.iter().find(|s| s.name == words[1]).expect("a setting");
-    let keys: usize = words[2].parse().unwrap();
-    let repeats: usize = words[3].parse().unwrap();
-    let case = cases::family_of(cases::SEED, keys, keys, named.size, named.setting);
-    let mut ours = Ours::new(&case);
-    match side.as_str() {
-        "none" => {}
-        "same" => {
-            ours.sweep(&case);
-            let (seeds, bitmap) = swept(&case, 1).unwrap();
-            assert!(seeds == ours.seeds && *bitmap == ours.bitmap[..], "they differ");
-            let h = holes(&bitmap, keys);
-            println!("same: {} holes", h.len());
-        }
-        "ours" => for _ in 0..repeats { black_box(ours.sweep(&case)); },
-        "rust" => for _ in 0..repeats { black_box(swept(&case, 1)); },
-        _ => panic!("a side"),
-    }
-    if words.len() > 4 {
-        for side in ["ours", "rust"] {
-            let mut best = f64::INFINITY;
-            for _ in 0..5 {
-                let start = Instant::now();
-                if side == "ours" { black_box(ours.sweep(&case)); } else { black_box(swept(&case, 1)); }
-                best = best.min(start.elapsed().as_secs_f64());
+    Ok(())
+}
+
+fn run(words: &[&str]) -> Result<(), String> {
+    let number = |word: &str| word.parse().map_err(|_| format!("no number: {word}"));
+    match words {
+        ["names"] => {
+            for named in &settings::ALL {
+                println!("{} {}", named.name, named.words());
             }
-            println!("{side} {:.1} ns a key", best * 1e9 / keys as f64);
+            Ok(())
+        }
+        ["times", keys] => times(number(keys)?),
+        ["once", side, job, setting, keys] => once(side, job, setting, number(keys)?),
+        _ => Err("usage: bench names | times KEYS | once SIDE JOB SETTING KEYS".into()),
+    }
+}
+
+fn main() -> ExitCode {
+    let words: Vec<String> = std::env::args().skip(1).collect();
+    match run(&words.iter().map(String::as_str).collect::<Vec<_>>()) {
+        Ok(()) => ExitCode::SUCCESS,
+        Err(message) => {
+            eprintln!("bench: {message}");
+            ExitCode::FAILURE
         }
     }
-    let _ = (lookups, 0);
 }

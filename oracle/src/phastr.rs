@@ -186,7 +186,7 @@ fn geometry(s: &Settings, chunks: usize) -> Geometry {
 
 /// The sweep alone: seeds and bitmap, in at most `chunks` chunks. None: bumping is forbidden and some
 /// bucket got 0.
-pub fn swept(case: &Case, chunks: usize) -> Option<(Vec<u16>, impl Deref<Target = [u64]>)> {
+pub fn swept(case: &Case, chunks: usize) -> Option<(Vec<u16>, impl Deref<Target = [u64]> + use<>)> {
     let g = geometry(&case.settings, chunks);
     let source = Handed { hashes: &case.hashes, begins: &case.begins };
     let mut log = dsi_progress_logger::Silent;
