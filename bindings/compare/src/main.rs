@@ -8,6 +8,7 @@
 //! exit status is 0 only if nothing differs.
 
 mod change;
+mod numbers;
 mod ours;
 mod rust;
 mod tally;
@@ -26,7 +27,7 @@ const SMALL_LONG: usize = 1_000_000;
 /// PHastR's defaults, and seeds of 10 bits on slices of 2,048 with the bucket size they are tuned for.
 const FAMILIES: [(cases::Setting, f64); 2] = [(cases::DEFAULT, 4.25), ((11, 2, 10), 5.75)];
 
-/// A run: what it compares with, what it compares in, and how long it took.
+/// A run: the seed of its cases, the memory it lends, what it found, what is still to be changed.
 struct Run {
     seed: u64,
     ours: Ours,
@@ -60,7 +61,15 @@ impl Run {
         self.tally.since(&before).say(&format!("{what}, owned"), began.elapsed());
     }
 
+    /// What the binding works out beside sweeps.
+    fn numbers(&mut self) {
+        let (began, before) = (Instant::now(), self.tally);
+        numbers::compare(self.seed ^ 3, &mut self.tally);
+        self.tally.since(&before).say("weights, table, bucket counts", began.elapsed());
+    }
+
     fn short(&mut self) {
+        self.numbers();
         self.compare("every setting", cases::every_setting(self.seed).into_iter());
         let named = oracle::named::all(self.seed ^ 1).into_iter().map(|(_, case)| case);
         self.compare("named", named);

@@ -7,9 +7,9 @@ use phastr::lent::{self, Input, Output};
 use phastr::{BUMPED, Builder, Counts, Error, Settings};
 
 /// The entries of the longest table that any settings ask for.
-const LONGEST_TABLE: usize = 95 + 4097 + 65_536;
+pub const LONGEST_TABLE: usize = 95 + 4097 + 65_536;
 
-/// What stands in lent memory before a sweep that does not find the last one's leavings there.
+/// What stands in lent memory where the last case has left nothing.
 const RUBBISH: u64 = 0xA5A5_A5A5_A5A5_A5A5;
 
 /// Lent memory, used again from case to case.
@@ -42,6 +42,7 @@ impl Ours {
         match (self.sweep(case), wanted) {
             (Ok(counts), Wanted::Done(level)) => self.compare_level(case, counts, level, tally),
             (Err(Error::NoSeed { bucket }), &Wanted::Stopped(wanted)) => {
+                tally.stopped += 1;
                 tally.same("the bucket of 14", bucket, wanted);
                 let zero =
                     self.seeds.iter().all(|&s| s == 0) && self.bitmap.iter().all(|&w| w == 0);

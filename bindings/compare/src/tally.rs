@@ -9,6 +9,8 @@ const TOLD: u64 = 20;
 #[derive(Clone, Copy, Debug, Default)]
 pub struct Tally {
     pub cases: u64,
+    /// Cases that number 14 stopped, among them.
+    pub stopped: u64,
     pub keys: u64,
     pub numbers: u64,
     pub differ: u64,
@@ -43,6 +45,7 @@ impl Tally {
     pub fn since(&self, before: &Tally) -> Tally {
         Tally {
             cases: self.cases - before.cases,
+            stopped: self.stopped - before.stopped,
             keys: self.keys - before.keys,
             numbers: self.numbers - before.numbers,
             differ: self.differ - before.differ,
@@ -51,8 +54,9 @@ impl Tally {
 
     pub fn say(&self, what: &str, took: Duration) {
         println!(
-            "{what}: {} cases, {} keys, {} numbers, {} differ ({:.1} s)",
+            "{what}: {} cases ({} stopped by 14), {} keys, {} numbers, {} differ ({:.1} s)",
             self.cases,
+            self.stopped,
             self.keys,
             self.numbers,
             self.differ,

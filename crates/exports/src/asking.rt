@@ -1,4 +1,7 @@
 // Where a finished level has its keys.
+ghost use mathlib.Core.Path.{_≡_};
+ghost use lib.ListN.{length};
+ghost use Rattle.geometry.specs.Shape.{Made};
 use geometry::settings::number_to_6;
 use geometry::shape::Geometry;
 use geometry::shape::geometry_of;
@@ -40,7 +43,10 @@ pub extern "C" fn phastr_lookup(
 }
 
 // The slot of a hash, or 2^64 - 1 where its bucket was bumped.
-fn slot_in(g: Geometry, seeds: &[u16], hash: u64) -> u64 {
+fn slot_in(g: Geometry, seeds: &[u16], hash: u64) -> u64
+    requires { ⌜ Made g ⌝ }
+    requires { ⌜ length (now seeds) ≡ g .settings .buckets ⌝ }
+{
     match lookup_in(g, seeds, hash) {
         Looked::At(at) => at,
         Looked::Bumped => u64::MAX,
@@ -82,7 +88,11 @@ pub extern "C" fn phastr_positions(
 }
 
 // The slots of the hashes.
-fn fill_slots(g: Geometry, seeds: &[u16], hashes: &[u64], slots: &mut [u64]) {
+fn fill_slots(g: Geometry, seeds: &[u16], hashes: &[u64], slots: &mut [u64])
+    requires { ⌜ Made g ⌝ }
+    requires { ⌜ length (now seeds) ≡ g .settings .buckets ⌝ }
+    requires { ⌜ length (now slots) ≡ length (now hashes) ⌝ }
+{
     let mut i = 0;
     while i < hashes.len() {
         slots[i] = slot_in(g, seeds, hashes[i]);
