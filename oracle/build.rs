@@ -77,10 +77,6 @@ fn main() {
     write("from_builder.rs", &from_builder(&builder));
     write("from_sweep.rs", &from_sweep(&sweep));
     write("sweep_mod.rs", &format!("#[path = {:?}]\nmod sweep;\n", folder.join("sweep.rs")));
-
-    if env::var_os("CARGO_FEATURE_EXPORTS").is_some() {
-        link_exports();
-    }
 }
 
 /// Products, constants and the signature of later levels.
@@ -143,16 +139,4 @@ fn write(name: &str, text: &str) {
     let path = Path::new(&env::var_os("OUT_DIR").unwrap()).join(name);
     fs::write(&path, text)
         .unwrap_or_else(|e| stop(&format!("cannot write {}: {e}", path.display())));
-}
-
-/// Has the binaries that need the feature `exports` linked with the static library of our exports.
-fn link_exports() {
-    let folder = Path::new(&env::var_os("CARGO_MANIFEST_DIR").unwrap()).join("../target/staticlib");
-    let library = folder.join("libexports.a");
-    println!("cargo:rerun-if-changed={}", library.display());
-    if !library.is_file() {
-        stop(&format!("no {}: run 'rt staticlib exports' first", library.display()));
-    }
-    println!("cargo:rustc-link-search=native={}", folder.display());
-    println!("cargo:rustc-link-lib=static=exports");
 }

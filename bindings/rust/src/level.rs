@@ -74,7 +74,7 @@ impl Level {
         let taken: u64 = self.bitmap.iter().map(|word| u64::from(word.count_ones())).sum();
         let mut list = vec![0; (self.settings.slots - taken) as usize];
         let count = lent::holes(self.settings.slots, &self.bitmap, &mut list);
-        debug_assert_eq!(count, Ok(list.len()));
+        assert_eq!(count, Ok(list.len()), "a swept level is sound");
         Holes(list.into_iter())
     }
 

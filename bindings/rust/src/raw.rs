@@ -13,7 +13,7 @@ use crate::table::HOUSE_ENTRIES;
 // Lengths are passed as size_t, which stands for Rattle's 64-bit usize.
 const _: () = assert!(size_of::<usize>() == 8);
 
-#[link(name = "exports", kind = "static")]
+// build.rs links the library.
 unsafe extern "C" {
     fn phastr_sweep(
         m: u64,

@@ -211,6 +211,12 @@ fn n14_no_seed() {
 }
 
 #[test]
+fn nothing_lent() {
+    let none = Case { hashes: vec![], begins: vec![], table: vec![], ..listing() };
+    Case { seeds: 0, bitmap: 0, work: 0, ..none }.refused(9);
+}
+
+#[test]
 fn the_first_number_counts() {
     // Everything is wrong, and is put right one thing after the other.
     let mut s = Settings { slots: 0, log2_slice_len: 2, log2_layouts: 9, seed_bits: 1, buckets: 2 };
