@@ -1,0 +1,3 @@
+mod Closing
+mod Fields
+mod Fill
