@@ -63,6 +63,20 @@ fn slot_in(g: Geometry, seeds: &[u16], hash: u64) -> u64
     }
 }
 
+// The slots of the hashes, each into its place.
+fn fill_slots(g: Geometry, seeds: &[u16], hashes: &[u64], slots: &mut [u64])
+    requires { ⌜ Made g ⌝ }
+    requires { ⌜ length (now seeds) ≡ g .settings .buckets ⌝ }
+    requires { ⌜ length (now slots) ≡ length (now hashes) ⌝ }
+    ensures { λ _. ⌜ now (slots .exit) ≡ map (slotOf (g .settings) (now (seeds .entry))) (now (hashes .entry)) ⌝ }
+{
+    let mut i = 0;
+    while i < hashes.len() {
+        slots[i] = slot_in(g, seeds, hashes[i]);
+        i += 1;
+    }
+}
+
 // Looks hashes up, each into its place of slots. 13 also where there are not as many slots as hashes.
 #[no_mangle]
 pub extern "C" fn phastr_positions(
@@ -97,18 +111,4 @@ pub extern "C" fn phastr_positions(
     }
     fill_slots(geometry_of(s), seeds, hashes, slots);
     0
-}
-
-// The slots of the hashes.
-fn fill_slots(g: Geometry, seeds: &[u16], hashes: &[u64], slots: &mut [u64])
-    requires { ⌜ Made g ⌝ }
-    requires { ⌜ length (now seeds) ≡ g .settings .buckets ⌝ }
-    requires { ⌜ length (now slots) ≡ length (now hashes) ⌝ }
-    ensures { λ _. ⌜ now (slots .exit) ≡ map (slotOf (g .settings) (now (seeds .entry))) (now (hashes .entry)) ⌝ }
-{
-    let mut i = 0;
-    while i < hashes.len() {
-        slots[i] = slot_in(g, seeds, hashes[i]);
-        i += 1;
-    }
 }
