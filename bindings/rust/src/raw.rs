@@ -1,10 +1,11 @@
 //! The library's functions, and all of this crate's unsafe code. Nothing compares these
 //! declarations with the library: they are those of include/phastr.h, which crates/exports has in Rattle.
 //!
-//! The library's functions are proved to return for every argument of these types, to keep to the
-//! slices and to write only where a `*mut` or `&mut` allows it. What a caller owes is what the
-//! types say, and a Rust slice or reference has all of it: pointers that are not null, aligned and
-//! good for the length given, for an empty slice too; nothing lent for writing is lent twice.
+//! None of the library's functions has a `requires`: each is proved to return for every argument of
+//! these types, to keep to the slices and to write only where a `*mut` or `&mut` allows it. What a
+//! caller owes is what the types say, and a Rust slice or reference has all of it: pointers that
+//! are not null, aligned and good for the length given, for an empty slice too; nothing lent for
+//! writing is lent twice.
 
 use crate::Settings;
 use crate::lent::{Input, Output};
@@ -186,3 +187,6 @@ pub(crate) fn house_table(table: &mut [u32; HOUSE_ENTRIES]) {
     // SAFETY: a reference for writing, to as many entries as the library writes.
     unsafe { phastr_house_table(table) }
 }
+
+#[cfg(test)]
+mod tests;

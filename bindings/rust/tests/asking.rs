@@ -1,9 +1,9 @@
 //! The refusals of the calls beside the sweep, each met and just missed, and owned levels.
 
 use phastr::lent;
-use phastr::{BUMPED, Builder, Error, Groups, Level, Settings, default_weights};
+use phastr::{BUMPED, Builder, Error, Groups, Level, Settings, default_weights, log_table};
 
-/// Settings that pass, with four seeds for three buckets missing one.
+/// Settings that pass, of three buckets.
 const SOUND: Settings =
     Settings { slots: 7, log2_slice_len: 3, log2_layouts: 0, seed_bits: 4, buckets: 3 };
 
@@ -216,6 +216,22 @@ fn levels_of_parts_are_checked() {
     assert_eq!(sweep(&[0, 1], &[0, 2, 1, 2]), Err(Error::Begins));
     assert_eq!(sweep(&[0, u64::MAX], &[0, 2, 2, 2]), Err(Error::StrayHash));
     assert!(sweep(&[0, u64::MAX], &[0, 1, 1, 2]).is_ok());
+    // The order of the numbers is the sweep's: 8 comes before 10.
+    let large = Groups::new(3, vec![0; 4097]).unwrap();
+    assert_eq!(Level::sweep(SOUND, [i64::MAX; 7], true, &large), Err(Error::Weights));
+    assert_eq!(Level::sweep(SOUND, [0; 7], true, &large), Err(Error::LargeBucket));
+}
+
+#[test]
+fn phastrs_weights_and_table() {
+    assert_eq!(default_weights(8)[..2], [-52000, 53315]);
+    assert_eq!(default_weights(9)[..2], [46000, 55041]);
+    let table = log_table(65_537);
+    assert_eq!([table[2049], table[3000], table[65_535]], [184_561_192, 193_789_374, 268_435_087]);
+    assert_eq!(table[65_536], 16 << 24);
+    assert!(table.windows(2).skip(1).all(|w| w[0] < w[1]));
+    assert_eq!(log_table(5), table[..5]);
+    assert_eq!(log_table(0), []);
 }
 
 #[test]

@@ -1,1 +1,4 @@
 pub mod Level
+pub mod Told
+pub mod Positions
+pub mod Sizes

@@ -1,7 +1,12 @@
 // Where a finished level has its keys.
 ghost use mathlib.Core.Path.{_≡_};
+ghost use mathlib.Core.List.{map};
 ghost use lib.ListN.{length};
+ghost use Rattle.rules.specs.Answers.{lookupAnswer};
 ghost use Rattle.geometry.specs.Shape.{Made};
+ghost use Rattle.exports.specs.Level.{settingsOf};
+ghost use Rattle.exports.specs.Told.{numberTold, slotTold};
+ghost use Rattle.exports.specs.Positions.{slotOf, positionsNumber, positionsSlots};
 use geometry::settings::number_to_6;
 use geometry::shape::Geometry;
 use geometry::shape::geometry_of;
@@ -21,7 +26,10 @@ pub extern "C" fn phastr_lookup(
     seeds: &[u16],
     hash: u64,
     slot: &mut u64,
-) -> u64 {
+) -> u64
+    ensures answer { λ r. ⌜ r ≡ numberTold (lookupAnswer (settingsOf m «log2_slice_len» ll sb buckets) (now (seeds .entry)) hash) ⌝ }
+    ensures found { λ _. ⌜ now (slot .exit) ≡ slotTold (lookupAnswer (settingsOf m «log2_slice_len» ll sb buckets) (now (seeds .entry)) hash) (now (slot .entry)) ⌝ }
+{
     let s = Settings {
         m: m,
         log2_slice_len: log2_slice_len,
@@ -46,11 +54,26 @@ pub extern "C" fn phastr_lookup(
 fn slot_in(g: Geometry, seeds: &[u16], hash: u64) -> u64
     requires { ⌜ Made g ⌝ }
     requires { ⌜ length (now seeds) ≡ g .settings .buckets ⌝ }
+    ensures { λ r. ⌜ r ≡ slotOf (g .settings) (now (seeds .entry)) hash ⌝ }
 {
     match lookup_in(g, seeds, hash) {
         Looked::At(at) => at,
         Looked::Bumped => u64::MAX,
         Looked::Refused(number) => u64::MAX,
+    }
+}
+
+// The slots of the hashes, each into its place.
+fn fill_slots(g: Geometry, seeds: &[u16], hashes: &[u64], slots: &mut [u64])
+    requires { ⌜ Made g ⌝ }
+    requires { ⌜ length (now seeds) ≡ g .settings .buckets ⌝ }
+    requires { ⌜ length (now slots) ≡ length (now hashes) ⌝ }
+    ensures { λ _. ⌜ now (slots .exit) ≡ map (slotOf (g .settings) (now (seeds .entry))) (now (hashes .entry)) ⌝ }
+{
+    let mut i = 0;
+    while i < hashes.len() {
+        slots[i] = slot_in(g, seeds, hashes[i]);
+        i += 1;
     }
 }
 
@@ -65,7 +88,10 @@ pub extern "C" fn phastr_positions(
     seeds: &[u16],
     hashes: &[u64],
     slots: &mut [u64],
-) -> u64 {
+) -> u64
+    ensures answer { λ r. ⌜ r ≡ positionsNumber (settingsOf m «log2_slice_len» ll sb buckets) (now (seeds .entry)) (now (hashes .entry)) (now (slots .entry)) ⌝ }
+    ensures found { λ _. ⌜ now (slots .exit) ≡ positionsSlots (settingsOf m «log2_slice_len» ll sb buckets) (now (seeds .entry)) (now (hashes .entry)) (now (slots .entry)) ⌝ }
+{
     let s = Settings {
         m: m,
         log2_slice_len: log2_slice_len,
@@ -85,17 +111,4 @@ pub extern "C" fn phastr_positions(
     }
     fill_slots(geometry_of(s), seeds, hashes, slots);
     0
-}
-
-// The slots of the hashes.
-fn fill_slots(g: Geometry, seeds: &[u16], hashes: &[u64], slots: &mut [u64])
-    requires { ⌜ Made g ⌝ }
-    requires { ⌜ length (now seeds) ≡ g .settings .buckets ⌝ }
-    requires { ⌜ length (now slots) ≡ length (now hashes) ⌝ }
-{
-    let mut i = 0;
-    while i < hashes.len() {
-        slots[i] = slot_in(g, seeds, hashes[i]);
-        i += 1;
-    }
 }

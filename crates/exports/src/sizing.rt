@@ -1,4 +1,10 @@
 // What a caller has to lend, and the house table.
+ghost use mathlib.Core.Path.{_≡_};
+ghost use Rattle.rules.specs.Answers.{countAnswer};
+ghost use Rattle.log_table.specs.House.{houseTable, House};
+ghost use Rattle.exports.specs.Level.{settingsOf};
+ghost use Rattle.exports.specs.Told.{numberTold, valueTold};
+ghost use Rattle.exports.specs.Sizes.{sizesNumber, sizesAfter};
 use geometry::count::bucket_count;
 use geometry::settings::number_to_7;
 use geometry::shape::geometry_of;
@@ -14,7 +20,10 @@ pub extern "C" fn phastr_bucket_count(
     keys: u64,
     size: f64,
     count: &mut u64,
-) -> u64 {
+) -> u64
+    ensures answer { λ r. ⌜ r ≡ numberTold (countAnswer «log2_slice_len» keys size) ⌝ }
+    ensures counted { λ _. ⌜ now (count .exit) ≡ valueTold (countAnswer «log2_slice_len» keys size) (now (count .entry)) ⌝ }
+{
     match bucket_count(log2_slice_len, keys, size) {
         Counted::Buckets(n) => {
             *count = n;
@@ -35,7 +44,10 @@ pub extern "C" fn phastr_sizes(
     buckets: u64,
     z: u64,
     sizes: &mut [u64; 3],
-) -> u64 {
+) -> u64
+    ensures answer { λ r. ⌜ r ≡ sizesNumber (settingsOf m «log2_slice_len» ll sb buckets) z ⌝ }
+    ensures sized { λ _. ⌜ now (sizes .exit) ≡ sizesAfter (settingsOf m «log2_slice_len» ll sb buckets) z (now (sizes .entry)) ⌝ }
+{
     let s = Settings {
         m: m,
         log2_slice_len: log2_slice_len,
@@ -51,14 +63,15 @@ pub extern "C" fn phastr_sizes(
         return 10;
     }
     let g = geometry_of(s);
-    sizes[0] = work_words(g, z);
-    sizes[1] = g.entries;
-    sizes[2] = (m + 63) / 64;
+    let words = work_words(g, z);
+    *sizes = [words, g.entries, (m + 63) / 64];
     0
 }
 
 // Writes the house table.
 #[no_mangle]
-pub extern "C" fn phastr_house_table(table: &mut [u32; 2048]) {
+pub extern "C" fn phastr_house_table(table: &mut [u32; 2048])
+    ensures { λ _. ⌜ (now (table .exit) ≡ houseTable) × House (now (table .exit)) ⌝ }
+{
     *table = house();
 }

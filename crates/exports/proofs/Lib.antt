@@ -1,0 +1,5 @@
+mod Closing
+mod Fields
+mod Fill
+mod ToldLaws
+mod Worked

@@ -1,0 +1,45 @@
+-- The number told is that of the first line that applies, and for a sweep that passed them all 14 or 0. So 0 tells that the call is done, and nothing else
+-- does. Each holds by the cases of the number. Assumes nothing.
+use mathlib.Core.Path.{_≡_, refl}
+use mathlib.Core.Bool.{Bool}
+use mathlib.Core.List.{List}
+use mathlib.Core.Option.{Option, none, some}
+use Prim.Native.Nat.{ℕ, zero, suc}
+use native.Mathlib.Omega.{arith}
+use lib.Ieee.{Float}
+use lib.ListN.{length}
+use Rattle.rules.specs.declared.Settings.{Settings}
+use Rattle.rules.specs.declared.Counts.{Counts}
+use Rattle.rules.specs.Order.{Input, Tie}
+use Rattle.rules.specs.Sweep.{finalSeeds}
+use Rattle.rules.specs.Numbers.{Lent, firstOf, lookupLines, holesLines, countLines}
+use Rattle.rules.specs.Answers.{Answer, unless, ranAnswer, countsOf, sweepTurns, stopsAt, sweepNumber, sweepAnswer, lookupAnswer, holesAnswer, countAnswer}
+use Rattle.exports.specs.Told.{numberTold}
+
+told-unless : (n : ℕ) (values : List ℕ) → numberTold (unless n (Answer values)) ≡ n
+unfolding numberTold unless
+told-unless zero values = refl
+told-unless (suc n) values = refl
+
+pub lookup-told : (s : Settings) (seeds : List ℕ) (h : ℕ) → numberTold (lookupAnswer s seeds h) ≡ firstOf (lookupLines s (length seeds))
+unfolding lookupAnswer
+lookup-told s seeds h = told-unless (firstOf (lookupLines s (length seeds))) _
+
+pub holes-told : (m : ℕ) (bitmap out : List ℕ) → numberTold (holesAnswer m bitmap out) ≡ firstOf (holesLines m bitmap (length out))
+unfolding holesAnswer
+holes-told m bitmap out = told-unless (firstOf (holesLines m bitmap (length out))) _
+
+pub count-told : (log2SliceLen k : ℕ) (size : Float) → numberTold (countAnswer log2SliceLen k size) ≡ firstOf (countLines log2SliceLen k size)
+unfolding countAnswer
+count-told log2SliceLen k size = told-unless (firstOf (countLines log2SliceLen k size)) _
+
+told-ran : (n : ℕ) (stop : Option ℕ) (counts : Counts) → numberTold (unless n (ranAnswer stop counts)) ≡ 0 → (n ≡ 0) × (stop ≡ none)
+unfolding numberTold unless ranAnswer
+told-ran zero none counts e = (refl, refl)
+told-ran zero (some b) counts e = absurd (omega arith)
+told-ran (suc n) stop counts e = absurd (omega arith)
+
+pub sweep-told : (tie : Tie) (bump : Bool) (i : Input) (lent : Lent)
+    → numberTold (sweepAnswer tie bump i lent) ≡ 0 → (sweepNumber i lent ≡ 0) × (stopsAt tie bump i ≡ none)
+unfolding sweepAnswer
+sweep-told tie bump i lent e = told-ran (sweepNumber i lent) (stopsAt tie bump i) (countsOf i (finalSeeds i (sweepTurns tie i))) e
