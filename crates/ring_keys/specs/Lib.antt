@@ -4,3 +4,5 @@ pub mod LayoutLaws
 pub mod CostLaws
 pub mod FilledLaws
 pub mod FillLaws
+pub mod Gathered
+pub mod GatherLaws

@@ -10,7 +10,7 @@ use geometry::place::slice_of;
 use geometry::shape::Geometry;
 
 // Where layout r puts a hash in its slice: `offset` is the hash's offset, and `shift` the layout's shift of it.
-fn layout_place(g: Geometry, offset: u64, shift: u64, r: u64) -> u64
+pub fn layout_place(g: Geometry, offset: u64, shift: u64, r: u64) -> u64
     requires { ⌜ Made g ⌝ }
     requires { ⌜ (shift < 64) × (r < 64) ⌝ }
     ensures { λ o. ⌜ (o ≡ (offset / 2 ^ shift + r * 2 ^ (g .scale)) % g .l) × (o < 65536) ⌝ }
@@ -20,7 +20,7 @@ fn layout_place(g: Geometry, offset: u64, shift: u64, r: u64) -> u64
 }
 
 // The ring key of place o in a slice that begins at entry `base`: the columns below 2^t go to the high half.
-fn pack(t: u64, base: u64, o: u64) -> u64
+pub fn pack(t: u64, base: u64, o: u64) -> u64
     requires { ⌜ (t ≤ 16) × (base < 2 ^ 31) × (o < 65536) ⌝ }
     ensures { λ d. ⌜ d ≡ packed t base o ⌝ }
 {

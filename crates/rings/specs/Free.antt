@@ -22,15 +22,6 @@ pub record FreeWord (g : Ring) (used keys : List ℕ) (start r w f : ℕ) : Type
   pub at : (j : ℕ) → j < 64 → j < g .n → bit f j ≡ freeAt g used keys start r (64 * w + j)
   pub past : (j : ℕ) → j < 64 → g .n ≤ j → bit f j ≡ 0
 
--- the free words of layout r, w of them, from `to` on: above the ring and the layout's keys, which are the size ones from `at` on
-pub record Filling (g : Ring) (l : List ℕ) (at size start r to w total : ℕ) (now : List ℕ) : Type 0 where
-  pub front : take to now ≡ take to l
-  pub len : length now ≡ length l
-  pub words : (k : ℕ) → k < w → FreeWord g l (part l at size) start r k (getD now (to + k) 0)
-  pub count : total ≡ onesTo (drop to now) w
-  pub most : total ≤ 64 * w
-  pub after : (k : ℕ) → to + w ≤ k → getD now k 0 ≡ getD l k 0
-
 -- the free words of the first r layouts: layout q's keys are the size ones from at + q size on, and its words the count ones from to + q count on
 pub record FilledTo (g : Ring) (l : List ℕ) (at size start to count r total : ℕ) (now : List ℕ) : Type 0 where
   pub front : take to now ≡ take to l

@@ -9,7 +9,7 @@ use native.Mathlib.Omega.{arith}
 use native.Mathlib.Nat.{mod-lt, mod-eq-of-lt, mod-add-mod, mul-le-mul-right, add-mul-div-right}
 use native.Mathlib.Numerals.{add-one}
 use lib.ListN.{length, getD}
-use lib.Bits.{bitAnd, and-mask}
+use lib.Bits.{bitAnd, bitOr, and-mask}
 use lib.Pow.{pow-pos, pow-add}
 use Rattle.words.specs.Bit.{bit}
 use Rattle.words.specs.BitLaws.{bit-lt, bit-and, bit-same}
@@ -19,9 +19,10 @@ use Rattle.integers.specs.Division.{mod-mod-le, mod-div-le, ring-turn}
 use Rattle.integers.specs.Shifts.{pow-le-cancel}
 use Rattle.rings.specs.declared.Ring.{Ring}
 use Rattle.rings.specs.Ring.{Shape, Word, ringBit, ringOf}
-use Rattle.rings.specs.Rows.{Ring64}
+use Rattle.rings.specs.Rows.{Row, Ring64}
 use Rattle.rings.specs.Keys.{placeAt, entryAt, slotAt, Key, KeyRow, costTo, costAt}
 use Rattle.rings.specs.RingLaws.{n-pos, step-lt}
+use Rattle.rings.specs.RowLaws.{turned, ring-short}
 
 -- ---- places
 
@@ -132,6 +133,20 @@ key-row {g} {used} {d} {start} {w} {x} {r} h hx a = record {
 
     slot : (j : ℕ) → d / 2 ^ 32 + start - 95 + (x + j) % g .n * 2 ^ (g .t) ≡ d / 2 ^ 32 + (d % 2 ^ 32 / 2 ^ (g .t) + (64 * w + j)) % g .n * 2 ^ (g .t) + start - 95
     slot j = rw (place j) (omega (arith, h .ahead))
+
+-- where n is 64 it is the row of the ring's slots, turned
+pub key-row-64 : {g : Ring} {used : List ℕ} {d start row : ℕ} → Key start d → g .n ≡ 64 → row < 2 ^ 64 → Row (g .t) (g .words) used (d / 2 ^ 32 + start - 95) row
+    → KeyRow g used d start 0 (bitOr (row / 2 ^ (d % 2 ^ 32 / 2 ^ (g .t) % 64)) (row * 2 ^ ((64 - d % 2 ^ 32 / 2 ^ (g .t) % 64) % 64) % 2 ^ 64))
+unfolding placeAt
+key-row-64 {g} {used} {d} {start} {row} h hn small a =
+    key-row {g = g} {w = 0} h (record { is = here; lt = rw hn place })
+    (rw hn (ring-short (omega arith) place a (turned 64 row (d % 2 ^ 32 / 2 ^ (g .t) % 64) row (omega arith) place (sym (mod-eq-of-lt small)))))
+  where
+    place : d % 2 ^ 32 / 2 ^ (g .t) % 64 < 64
+    place = mod-lt (d % 2 ^ 32 / 2 ^ (g .t)) (omega arith)
+
+    here : d % 2 ^ 32 / 2 ^ (g .t) % 64 ≡ (d % 2 ^ 32 / 2 ^ (g .t) + 64 * 0) % g .n
+    here = let e : d % 2 ^ 32 / 2 ^ (g .t) + 64 * 0 ≡ d % 2 ^ 32 / 2 ^ (g .t) = omega arith in rw (hn, e) refl
 
 -- ---- costs
 

@@ -5,11 +5,15 @@ pub mod Parts
 pub mod Marks
 pub mod Place
 pub mod Free
+pub mod Blocked
+pub mod Stream
 pub mod Columns
 pub mod RingLaws
 pub mod RowLaws
 pub mod KeyLaws
 pub mod FreeLaws
+pub mod BlockedLaws
+pub mod StreamLaws
 pub mod FilledLaws
 pub mod MarkLaws
 pub mod PlaceLaws

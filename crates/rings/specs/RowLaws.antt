@@ -18,10 +18,10 @@ use Rattle.rings.specs.Rows.{Row, Ring64, Turned, Wrapped}
 
 -- ---- a row from the two words that have it
 
-row-div : (t p i : ℕ) → (p + i * 2 ^ t) / 2 ^ t ≡ p / 2 ^ t + i
+pub row-div : (t p i : ℕ) → (p + i * 2 ^ t) / 2 ^ t ≡ p / 2 ^ t + i
 row-div t p i = add-mul-div-right p i (pow-pos t)
 
-row-mod : (t p i : ℕ) → (p + i * 2 ^ t) % 2 ^ t ≡ p % 2 ^ t
+pub row-mod : (t p i : ℕ) → (p + i * 2 ^ t) % 2 ^ t ≡ p % 2 ^ t
 row-mod t p i = add-mul-mod-self-right p i (2 ^ t)
 
 -- the slot's bit, in the same column and in the next

@@ -4,92 +4,107 @@ ghost use lib.ListN.{length};
 ghost use Rattle.rings.specs.Ring.{Shape};
 ghost use Rattle.rings.specs.Keys.{Keys};
 ghost use Rattle.rings.specs.Parts.{part};
-ghost use Rattle.rings.specs.Free.{Bar, Blocked, FreeWord, Filling, FilledTo};
+ghost use Rattle.rings.specs.Free.{Bar, FilledTo};
+ghost use Rattle.rings.specs.Stream.{LayoutKeys, LayoutsAdded};
+ghost use Rattle.rings.specs.Blocked.{Cleared, BegunFree, Own, TurnedOver, FinishedFree};
 use crate::Ring;
-use crate::keys::key_row;
-use crate::rows::low_bits;
+use crate::stream::or_key;
 
-// Bit j: whether rotation 64 w + j of layout r is the barred one.
-fn bar(g: Ring, r: usize, w: usize) -> u64
-    ensures { λ x. ⌜ Bar g r w x ⌝ }
+// The first word of layout 0 with the barred rotation alone, which is rotation 0 where n = R.
+fn bar(g: Ring) -> u64
+    ensures { λ x. ⌜ Bar g 0 0 x ⌝ }
 {
-    if r != 0 {
-        return 0;
-    }
-    if w != 0 {
-        return 0;
-    }
     if g.n != g.rotations {
         return 0;
     }
     1
 }
 
-// Bit j, for j below n: whether rotation 64 w + j of layout r is barred or a slot that it gives a key is used.
-fn blocked(g: Ring, used: &[u64], keys: &[u64], start: usize, r: usize, w: usize) -> u64
-    requires { ⌜ Shape g ⌝ }
-    requires { ⌜ g .words ≤ length (now used) ⌝ }
-    requires { ⌜ Keys (now keys) start ⌝ }
-    requires { ⌜ (start < 2 ^ 62) × (64 * w < g .n) ⌝ }
-    ensures { λ x. ⌜ Blocked g (now (used .entry)) (now (keys .entry)) start r w (length (now (keys .entry))) x ⌝ }
+// Writes 0 to work[to..to + words].
+fn clear_words(work: &mut [u64], to: usize, words: usize)
+    requires { ⌜ to + words ≤ length (now work) ⌝ }
+    ensures { λ _. ⌜ Cleared (now (work .entry)) to words (now (work .exit)) ⌝ }
 {
-    let mut acc = bar(g, r, w);
     let mut i = 0;
-    while i < keys.len() {
-        acc = acc | key_row(g, used, keys[i], start, w);
+    while i < words {
+        work[to + i] = 0;
         i += 1;
     }
-    acc
 }
 
-// Bit j: whether rotation 64 w + j of layout r is free; 0 from n on.
-pub fn free_word(g: Ring, used: &[u64], keys: &[u64], start: usize, r: usize, w: usize) -> u64
-    requires { ⌜ Shape g ⌝ }
-    requires { ⌜ g .words ≤ length (now used) ⌝ }
-    requires { ⌜ Keys (now keys) start ⌝ }
-    requires { ⌜ (start < 2 ^ 62) × (64 * w < g .n) ⌝ }
-    ensures { λ f. ⌜ FreeWord g (now (used .entry)) (now (keys .entry)) start r w f ⌝ }
+// Writes the barred rotation alone to the words of all layouts, which are count each from `to` on: it is bit 0 of the first of them.
+pub fn begin_free(g: Ring, work: &mut [u64], to: usize, layouts: usize, count: usize)
+    requires { ⌜ to + layouts * count ≤ length (now work) ⌝ }
+    ensures { λ _. ⌜ BegunFree g (now (work .entry)) to layouts count (now (work .exit)) ⌝ }
 {
-    let f = u64::MAX - blocked(g, used, keys, start, r, w);
-    let n = g.n;
-    if n < 64 {
-        return low_bits(f, n);
+    let words = layouts * count;
+    clear_words(work, to, words);
+    if words == 0 {
+        return;
     }
-    f
+    work[to] = bar(g);
 }
 
-// Writes the free rotations of layout r to work[to..to + count] and tells how many there are. The ring is the front of work, and the layout's
-// keys are work[at..at + size].
-pub fn fill_layout(
-    g: Ring,
-    work: &mut [u64],
-    at: usize,
-    size: usize,
-    start: usize,
-    r: usize,
-    to: usize,
-    count: usize,
-) -> u64
-    requires { ⌜ Shape g ⌝ }
-    requires { ⌜ (g .words ≤ at) × (at + size ≤ to) × (to + count ≤ length (now work)) × (64 * count < g .n + 64) ⌝ }
-    requires { ⌜ Keys (part (now work) at size) start ⌝ }
-    requires { ⌜ start < 2 ^ 62 ⌝ }
-    ensures { λ total. ⌜ Filling g (now (work .entry)) at size start r to count total (now (work .exit)) ⌝ }
+// The low n bits, and all of them from 64 on.
+fn own_bits(n: usize) -> u64
+    ensures { λ r. ⌜ Own n r ⌝ }
 {
-    let words = g.words;
+    if n < 64 { (1u64 << n) - 1 } else { u64::MAX }
+}
+
+// Makes each of work[to..to + words] its complement, cut to the bits of own; tells how many bits are left.
+fn turn_over(work: &mut [u64], to: usize, words: usize, own: u64) -> u64
+    requires { ⌜ (to + words ≤ length (now work)) × (words ≤ 2 ^ 32) ⌝ }
+    ensures { λ total. ⌜ TurnedOver (now (work .entry)) to words own total (now (work .exit)) ⌝ }
+{
     let mut total = 0;
-    let mut w = 0;
-    while w < count {
-        let v = &work[..];
-        let f = free_word(g, &v[..words], &v[at..at + size], start, r, w);
-        work[to + w] = f;
+    let mut i = 0;
+    while i < words {
+        let f = (u64::MAX - work[to + i]) & own;
+        work[to + i] = f;
         total += u64::count_ones(f) as u64;
-        w += 1;
+        i += 1;
     }
     total
 }
 
-// The same for all layouts: layout r's keys are the size ones at work[at + r size..], and its words go to work[to + r count..].
+// Makes work[to..to + words], which have the rotations that are blocked, those that are free; tells how many there are.
+pub fn finish_free(g: Ring, work: &mut [u64], to: usize, words: usize) -> u64
+    requires { ⌜ (to + words ≤ length (now work)) × (words ≤ 2 ^ 32) ⌝ }
+    ensures { λ total. ⌜ FinishedFree g (now (work .entry)) to words total (now (work .exit)) ⌝ }
+{
+    turn_over(work, to, words, own_bits(g.n))
+}
+
+// Adds key i of each layout to the words of its layout: layout r's keys are the size ones from work[at + r size] on, and its words the count ones from
+// work[to + r count] on.
+fn or_layouts(
+    g: Ring,
+    work: &mut [u64],
+    at: usize,
+    size: usize,
+    i: usize,
+    layouts: usize,
+    start: usize,
+    to: usize,
+    count: usize,
+)
+    requires { ⌜ Shape g ⌝ }
+    requires { ⌜ (g .words ≤ to) × (to + layouts * count ≤ length (now work)) × (64 * count < g .n + 64) × (64 < g .n) ⌝ }
+    requires { ⌜ LayoutKeys (now work) (at + i) size layouts start to ⌝ }
+    requires { ⌜ start < 2 ^ 62 ⌝ }
+    ensures { λ _. ⌜ LayoutsAdded g (now (work .entry)) (at + i) size start to count layouts (now (work .exit)) ⌝ }
+{
+    let mut r = 0;
+    while r < layouts {
+        let d = work[at + r * size + i];
+        or_key(g, work, d, start, to + r * count, count);
+        r += 1;
+    }
+}
+
+// Writes the free rotations of all layouts and tells how many there are, where n is above 64. The ring is the front of work; layout r's keys are the
+// size ones at work[at + r size..], and its words go to work[to + r count..].
 pub fn fill_free(
     g: Ring,
     work: &mut [u64],
@@ -101,20 +116,16 @@ pub fn fill_free(
     count: usize,
 ) -> u64
     requires { ⌜ Shape g ⌝ }
-    requires { ⌜ (g .words ≤ at) × (at + layouts * size ≤ to) × (to + layouts * count ≤ length (now work)) × (64 * count < g .n + 64) ⌝ }
+    requires { ⌜ (g .words ≤ at) × (at + layouts * size ≤ to) × (to + layouts * count ≤ length (now work)) × (64 * count < g .n + 64) × (64 < g .n) ⌝ }
     requires { ⌜ Keys (part (now work) at (layouts * size)) start ⌝ }
     requires { ⌜ (start < 2 ^ 62) × (layouts ≤ 65536) ⌝ }
     ensures { λ total. ⌜ FilledTo g (now (work .entry)) at size start to count layouts total (now (work .exit)) ⌝ }
 {
-    let mut total = 0;
-    let mut a = at;
-    let mut f = to;
-    let mut r = 0;
-    while r < layouts {
-        total += fill_layout(g, work, a, size, start, r, f, count);
-        a += size;
-        f += count;
-        r += 1;
+    begin_free(g, work, to, layouts, count);
+    let mut i = 0;
+    while i < size {
+        or_layouts(g, work, at, size, i, layouts, start, to, count);
+        i += 1;
     }
-    total
+    finish_free(g, work, to, layouts * count)
 }

@@ -6,6 +6,7 @@ ghost use Rattle.rings.specs.Ring.{Shape, Word};
 ghost use Rattle.rings.specs.Keys.{placeAt, entryAt, slotAt, Key, KeyRow};
 use crate::Ring;
 use crate::rows::ring64;
+use crate::rows::row64;
 
 // The place in its ring that key d takes at rotation j.
 pub fn place_of(g: Ring, d: u64, j: usize) -> usize
@@ -46,4 +47,17 @@ pub fn key_row(g: Ring, used: &[u64], d: u64, start: usize, w: usize) -> u64
 {
     let x = place_of(g, d, 64 * w);
     ring64(g, used, (d / 0x1_0000_0000) as usize + start - 95, x)
+}
+
+// The same at rotation 0 where n is 64: a row that is turned as a whole.
+pub fn key_row_64(g: Ring, used: &[u64], d: u64, start: usize) -> u64
+    requires { ⌜ Shape g ⌝ }
+    requires { ⌜ g .words ≤ length (now used) ⌝ }
+    requires { ⌜ Key start d ⌝ }
+    requires { ⌜ (start < 2 ^ 62) × (g .n ≡ 64) ⌝ }
+    ensures { λ r. ⌜ KeyRow g (now (used .entry)) d start 0 r ⌝ }
+{
+    let x = ((d % 0x1_0000_0000) >> g.t) % 64;
+    let row = row64(g, used, (d / 0x1_0000_0000) as usize + start - 95);
+    (row >> x) | (row << ((64 - x) % 64))
 }

@@ -6,6 +6,7 @@ pub mod marks;
 pub mod place;
 pub mod rows;
 pub mod slots;
+pub mod stream;
 
 // The numbers of a ring: it has `words` words, and its rows go by steps of 2^t slots; a key has n slots to take, and a layout has `rotations` seeds.
 pub struct Ring {

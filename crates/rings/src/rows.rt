@@ -10,7 +10,7 @@ use crate::slots::next_word;
 use crate::slots::word_of;
 
 // 64 bits from bit s of lo on, which go on in hi.
-fn join(lo: u64, hi: u64, s: usize) -> u64
+pub fn join(lo: u64, hi: u64, s: usize) -> u64
     requires { ⌜ s < 64 ⌝ }
     ensures { λ r. ⌜ r ≡ (hi * 2 ^ 64 + lo) / 2 ^ s % 2 ^ 64 ⌝ }
 {
@@ -46,7 +46,7 @@ fn turn(row: u64, n: usize, x: usize) -> u64
 }
 
 // The low k bits of a, and above them those of b.
-fn wrap(a: u64, b: u64, k: usize) -> u64
+pub fn wrap(a: u64, b: u64, k: usize) -> u64
     requires { ⌜ k < 64 ⌝ }
     ensures { λ r. ⌜ Wrapped a b k r ⌝ }
 {

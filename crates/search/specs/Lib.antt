@@ -2,6 +2,8 @@ pub mod Slots
 pub mod SlotLaws
 pub mod Rows
 pub mod LookLaws
+pub mod Preparing
+pub mod Usual
 pub mod Distinct
 pub mod DistinctLaws
 pub mod Settle

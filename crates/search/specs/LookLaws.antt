@@ -1,4 +1,5 @@
--- What `fill_free` and the two ways to the best leave is what the look for the best free rotation promises. Assumes nothing.
+-- The filled free words are what the look for the best free rotation asks for, and with the best that it finds among them they are what it promises.
+-- Assumes nothing.
 use mathlib.Core.Path.{_≡_, sym, ap, _∙_}
 use mathlib.Core.Bool.{Bool, not}
 use mathlib.Core.List.{List}
@@ -6,12 +7,15 @@ use Prim.Native.Nat.{ℕ, zero, suc, _+_, _-_, _*_, _/_, _≤_, _<_}
 use native.Mathlib.Omega.{arith}
 use lib.Dec.{T, eqb}
 use lib.ListN.{length, take, drop}
-use Rattle.words.specs.Map.{Words}
+use lib.Seq.{getD-drop}
+use Rattle.words.specs.Map.{Words, slot, tally}
+use Rattle.words.specs.MapLaws.{slot-drop, slot-part}
+use Rattle.words.specs.TallyLaws.{tally-ones, tally-free}
 use Rattle.rings.specs.declared.Ring.{Ring}
 use Rattle.rings.specs.Ring.{Shape}
 use Rattle.rings.specs.Keys.{costAt, freeAt}
 use Rattle.rings.specs.Free.{FilledTo}
-use Rattle.rings.specs.FilledLaws.{whole-words, none-free}
+use Rattle.rings.specs.FilledLaws.{whole-words}
 use Rattle.rings.specs.Parts.{part, length-part, part-range, front-same}
 use Rattle.best.specs.declared.Best.{Best}
 use Rattle.best.specs.Best.{nothing, bestFrom, bestOf}
@@ -20,7 +24,7 @@ use Rattle.best.specs.Prices.{isFree, costIn, freeIn, bestFree, Ended, EndedAll
 use Rattle.best.specs.Kept.{Kept, kept-part}
 use Rattle.best.specs.Layouts.{row-le, part-part, ended-layout}
 use Rattle.best.specs.Filled.{filled-keys, filled-free, filled-ended}
-use Rattle.search.specs.Rows.{rowAt, bestRows, FreeWords, Looked}
+use Rattle.search.specs.Rows.{rowAt, bestRows, FreeWords, Looking, Looked}
 
 -- ---- free words
 
@@ -49,10 +53,55 @@ of-fails cost test n (suc r) h =
     ∙ from-fails (cost r) (test r) r (bestOf cost test n r) 0 n (λ i a l. h r i (omega arith) (omega arith))
     ∙ of-fails cost test n r (λ q j a l. h q j (omega arith) l)
 
--- ---- the look
+-- ---- what is asked for
+
+module _ {g : Ring} {table work : List ℕ} {at size to count layouts total : ℕ} (k : Looking g table work at size to count layouts total) where
+  -- the two parts of the code
+  pub parts-known : Prices g table (take (at + layouts * size - at) (drop at work)) × (((length (take (at + layouts * size - at) (drop at work)) ≡ layouts * size) × (length (take (to + layouts * count - to) (drop to work)) ≡ layouts * count)) × EndedAll (g .n) (take (to + layouts * count - to) (drop to work)) count layouts)
+  parts-known =
+      rw (part-range work at (layouts * size), part-range work to (layouts * count)) (
+        k .prices,
+        (
+          (length-part work at (layouts * size) (omega (arith, k .below, k .room)), length-part work to (layouts * count) (omega (arith, k .room))),
+          k .ended,
+        ),
+      )
+
+  -- no word has a one: no rotation is free
+  pub none-best : Words work → total ≡ 0 → nothing ≡ bestFree g table (part work at (layouts * size)) size (part work to (layouts * count)) count layouts
+  unfolding bestFree freeIn isFree
+  none-best small z =
+      sym (of-fails (costIn g table (part work at (layouts * size)) size) (freeIn (part work to (layouts * count)) count) (g .n) layouts (λ r j lr lj. rw (zero-slot r j lr (omega (arith, k .ended .whole))) tt))
+    where
+      none : tally (drop to work) (layouts * count * 64) ≡ 0
+      none = tally-ones (drop to work) (layouts * count) (λ i. rw (getD-drop to work i 0) (small (to + i))) ∙ sym (k .sum) ∙ z
+
+      zero-slot : (r j : ℕ) → r < layouts → j < 64 * count → slot (part (part work to (layouts * count)) (r * count) count) j ≡ 0
+      zero-slot r j lr lj =
+          let e : 64 * (to + r * count) + j ≡ 64 * to + (64 * (r * count) + j) = omega arith in
+          ap (λ (x : List ℕ). slot x j) (part-part work to (layouts * count) (r * count) count (row-le r layouts count lr))
+          ∙ slot-part work (to + r * count) count j lj
+          ∙ ap (slot work) e
+          ∙ sym (slot-drop work to (64 * (r * count) + j))
+          ∙ tally-free (drop to work) (layouts * count * 64) (64 * (r * count) + j) none (omega (arith, row-le r layouts count lr))
+
+-- ---- from the filled words
 
 module _ {g : Ring} {l : List ℕ} {at size start to count layouts total : ℕ} {now : List ℕ} (s : Shape g) (f : FilledTo g l at size start to count layouts total now)
-    (words : FreeWords (g .n) count) (keys : at + layouts * size ≤ to) (room : to + layouts * count ≤ length l) where
+    (words : FreeWords (g .n) count) (keys : at + layouts * size ≤ to) (room : to + layouts * count + count ≤ length l) where
+  ended-all : EndedAll (g .n) (part now to (layouts * count)) count layouts
+  ended-all = filled-ended f s (omega arith) (words .whole) (words .short)
+
+  pub looking : {table : List ℕ} → Prices g table (part l at (layouts * size)) → Looking g table now at size to count layouts total
+  looking p = record {
+    shape = s;
+    prices = rw (filled-keys f keys) p;
+    ended = ended-all;
+    sum = f .sum;
+    below = keys;
+    room = rw (f .len) room;
+  }
+
   -- a row of the free words, and a row of all of them
   row : (r : ℕ) → r < layouts → part (part now to (layouts * count)) (r * count) count ≡ rowAt now to count r
   row r lt = part-part now to (layouts * count) (r * count) count (row-le r layouts count lt)
@@ -62,8 +111,7 @@ module _ {g : Ring} {l : List ℕ} {at size start to count layouts total : ℕ} 
   row-free r j lt h = ap (λ (x : List ℕ). isFree x j) (sym (row r lt)) ∙ filled-free f s r j lt h (words .whole)
 
   row-ended : (r : ℕ) → r < layouts → Ended (g .n) (rowAt now to count r)
-  row-ended r lt =
-      rw (row r lt) at (ended-layout r (filled-ended f s room (words .whole) (words .short)) (length-part now to (layouts * count) (omega (arith, f .len))) lt)
+  row-ended r lt = rw (row r lt) at (ended-layout r ended-all (length-part now to (layouts * count) (omega (arith, f .len))) lt)
 
   rows-free : (table : List ℕ) → bestFree g table (part now at (layouts * size)) size (part now to (layouts * count)) count layouts ≡ bestRows g table now at size to count layouts
   unfolding bestFree bestRows costIn freeIn
@@ -77,25 +125,13 @@ module _ {g : Ring} {l : List ℕ} {at size start to count layouts total : ℕ} 
       (λ r h. ap (costAt g table) (part-part now at (layouts * size) (r * size) size (row-le r layouts size h)))
       (λ r h. ap isFree (row r h))
 
-  -- what `best_all` asks of the two parts
-  pub parts-known : {table : List ℕ} → Prices g table (part l at (layouts * size))
-      → Prices g table (take (at + layouts * size - at) (drop at now)) × (((length (take (at + layouts * size - at) (drop at now)) ≡ layouts * size) × (length (take (to + layouts * count - to) (drop to now)) ≡ layouts * count)) × EndedAll (g .n) (take (to + layouts * count - to) (drop to now)) count layouts)
-  parts-known p =
-      rw (part-range now at (layouts * size), part-range now to (layouts * count)) (
-        rw (filled-keys f keys) p,
-        (
-          (length-part now at (layouts * size) (omega (arith, f .len)), length-part now to (layouts * count) (omega (arith, f .len))),
-          filled-ended f s room (words .whole) (words .short),
-        ),
-      )
-
-  -- with the words from `up` on overwritten since
-  pub looked : {table : List ℕ} {up : ℕ} {b : Best} {after : List ℕ} → to + layouts * count ≤ up → Kept up now after
+  -- with the words behind them overwritten since
+  pub looked : {table : List ℕ} {b : Best} {after : List ℕ} → Kept (to + layouts * count) now after
       → b ≡ bestFree g table (part now at (layouts * size)) size (part now to (layouts * count)) count layouts
       → Looked g table l at size start to count layouts b after
   unfolding bestRows
-  looked {table} {up} {b} {after} above k e = record {
-    front = front-same after now up to (omega arith) (k .front) ∙ f .front;
+  looked {table} {b} {after} k e = record {
+    front = front-same after now (to + layouts * count) to (omega arith) (k .front) ∙ f .front;
     len = k .len ∙ f .len;
     free = λ r j lt h. rw (kept r lt) (row-free r j lt h);
     ended = λ r lt. rw (kept r lt) (row-ended r lt);
@@ -111,19 +147,3 @@ module _ {g : Ring} {l : List ℕ} {at size start to count layouts total : ℕ} 
           (g .n) layouts
           (λ r h. ap (costAt g table) (kept-part (at + r * size) size k (omega (arith, row-le r layouts size h))))
           (λ r h. ap isFree (kept r h))
-
-  -- none is free
-  pub looked-none : (table : List ℕ) → Words now → total ≡ 0 → Looked g table l at size start to count layouts nothing now
-  unfolding bestRows
-  looked-none table w z = record {
-    front = f .front;
-    len = f .len;
-    free = row-free;
-    ended = row-ended;
-    is = sym none;
-  }
-    where
-      none : bestRows g table now at size to count layouts ≡ nothing
-      none =
-          of-fails (λ (r : ℕ). costAt g table (rowAt now at size r)) (λ (r : ℕ). isFree (rowAt now to count r)) (g .n) layouts
-          (λ r j lr lj. rw (row-free r j lr lj, none-free s f r lr w z j lj (omega (arith, words .whole))) tt)

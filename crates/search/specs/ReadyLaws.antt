@@ -14,20 +14,25 @@ use Rattle.geometry.specs.declared.shape.Geometry.{Geometry}
 use Rattle.geometry.proofs.Sizes.{sized}
 use Rattle.rings.specs.declared.Ring.{Ring}
 use Rattle.rings.specs.Ring.{Shape}
-use Rattle.rings.specs.Keys.{Keys, freeAt}
+use Rattle.rings.specs.Keys.{freeAt}
+use Rattle.rings.specs.Free.{FilledTo}
 use Rattle.rings.specs.Parts.{part, front-same, part-same, length-part}
 use Rattle.rings.specs.CacheLaws.{caches-front}
 use Rattle.rings.specs.Level.{levelRing}
 use Rattle.rings.specs.LevelLaws.{shape-level}
 use Rattle.best.specs.declared.Best.{Best}
-use Rattle.best.specs.Prices.{Prices}
+use Rattle.best.specs.Prices.{Prices, bestFree}
+use Rattle.best.specs.Kept.{Kept}
 use Rattle.best.specs.Layouts.{row-le}
 use Rattle.ring_keys.specs.RingKey.{Bucket, KeysFilled}
 use Rattle.ring_keys.specs.LayoutLaws.{homes-of, entries-few}
-use Rattle.ring_keys.specs.FilledLaws.{filled-part, filled-ok, filled-priced}
-use Rattle.search.specs.Rows.{FreeWords, Looked}
+use Rattle.ring_keys.specs.FilledLaws.{filled-part, filled-priced}
+use Rattle.search.specs.Rows.{FreeWords, Looking, Looked}
+use Rattle.search.specs.LookLaws.{looking, looked}
+use Rattle.ring_keys.specs.Gathered.{Gathered}
+use Rattle.search.specs.Preparing.{Preparing, gathered-free}
 use Rattle.search.specs.Searching.{Held, Ready, Searched}
-use Rattle.search.specs.WorkMap.{Prepared, Laid}
+use Rattle.search.specs.WorkMap.{Prepared, Laid, LaidBest}
 use Rattle.search.specs.HeldLaws.{free-is}
 use Rattle.search.specs.PreparedLaws.{size-few, start-small}
 
@@ -88,9 +93,6 @@ module _ {i : Input} {marked : List ℕ} {first : ℕ} {g : Geometry} {ring : Ri
 
   above-level : levelRing (i .settings) .words ≤ at
   above-level = rw (q .level) at above
-
-  pub filled-keys : Keys (part filled at (g .layouts * length keys)) start
-  filled-keys = rw (ready-layouts q, q .hashes, ready-start q es) (filled-ok filled-room keys-filled (q .held .sound .good) b (homes-of i (q .held .sound) b (q .held .inside)))
 
   prices-in : Prices (levelRing (i .settings)) (i .table) (part filled at (G.layouts (i .settings) * length (keysOf i b)))
   prices-in = record {
@@ -178,26 +180,44 @@ module _ {i : Input} {marked : List ℕ} {first : ℕ} {g : Geometry} {ring : Ri
   pub keys-room : ring .words + g .layouts * length keys ≤ length work
   keys-room = omega (arith, keys-fit q, map-fits q count w)
 
-  pub fill-room : ring .words + G.layouts (g .settings) * length keys ≤ length work
-  fill-room = rw (q .settings, ← ready-layouts q) keys-room
+  pub code-preparing : Preparing g ring keys start (ring .words) (ring .words + z * (g .layouts + 2)) count work
+  code-preparing = record {
+    made = q .made;
+    good = rw (q .settings) (q .held .sound .good);
+    level = rw (q .settings) (q .level);
+    bucket = ready-bucket q es;
+    words = w;
+    above = omega arith;
+    below = omega (arith, keys-fit q);
+    room = omega (arith, map-fits q count w);
+    begin = ready-small q es;
+  }
 
-  pub keys-end : ring .words + g .layouts * length keys ≤ ring .words + z * (g .layouts + 2)
-  keys-end = omega (arith, keys-fit q)
+  module _ {total : ℕ} {now : List ℕ} (k : Gathered (g .settings) ring keys start (ring .words) (ring .words + z * (g .layouts + 2)) count work total now) where
+    -- in the code's terms
+    code-free : FilledTo ring (k .filled) (ring .words) (length keys) start (ring .words + z * (g .layouts + 2)) count (g .layouts) total now
+    code-free = gathered-free (q .made) k
 
-  module _ {filled : List ℕ} (k : KeysFilled (g .settings) keys start (ring .words) work filled) where
-    pub free-room : ring .words + z * (g .layouts + 2) + g .layouts * count + count ≤ length filled
-    free-room = rw (k .len) (map-fits q count w)
+    code-room : ring .words + z * (g .layouts + 2) + g .layouts * count + count ≤ length (k .filled)
+    code-room = rw (k .keys .len) (map-fits q count w)
 
-    pub code-keys : Keys (part filled (ring .words) (g .layouts * length keys)) start
-    code-keys = filled-keys q es (omega arith) keys-room k
+    code-end : ring .words + g .layouts * length keys ≤ ring .words + z * (g .layouts + 2)
+    code-end = omega (arith, keys-fit q)
 
-    pub code-prices : Prices ring table (part filled (ring .words) (g .layouts * length keys))
-    code-prices = filled-prices q es (omega arith) keys-room k
+    pub code-looking : Looking ring table now (ring .words) (length keys) (ring .words + z * (g .layouts + 2)) count (g .layouts) total
+    code-looking = looking (ready-shape q) code-free w code-end code-room (filled-prices q es (omega arith) keys-room (k .keys))
 
-    pub code-laid : {f : Best} {after : List ℕ} → Looked ring table filled (ring .words) (length keys) start (ring .words + z * (g .layouts + 2)) count (g .layouts) f after
-        → Laid i marked first b ring (g .layouts) table keys start (ring .words) (ring .words + z * g .layouts) (ring .words + z * (g .layouts + 2)) count bitmap after
-    code-laid l =
-        laid q es (omega arith) keys-room k (keys-fit q) (omega (arith, q .few)) (omega (arith, map-fits q count w)) l
+    -- the best free rotation found
+    pub code-laid : {f : Best} {after : List ℕ}
+        → (f ≡ bestFree ring table (part now (ring .words) (g .layouts * length keys)) (length keys) (part now (ring .words + z * (g .layouts + 2)) (g .layouts * count)) count (g .layouts)) × Kept (ring .words + z * (g .layouts + 2) + g .layouts * count) now after
+        → LaidBest i marked first b ring (g .layouts) table keys start (ring .words) (ring .words + z * g .layouts) (ring .words + z * (g .layouts + 2)) count bitmap work f after
+    code-laid {f} {after} e =
+        let l : Looked ring table (k .filled) (ring .words) (length keys) start (ring .words + z * (g .layouts + 2)) count (g .layouts) f after = looked (ready-shape q) code-free w code-end code-room (e .1) (e .0) in
+        record {
+          laid = laid q es (omega arith) keys-room (k .keys) (keys-fit q) (omega (arith, q .few)) (omega (arith, map-fits q count w)) l;
+          is = l .is;
+          len = l .len ∙ k .keys .len;
+        }
 
 -- the length that is kept may be counted from an earlier list
 pub searched-since : {i : Input} {marked : List ℕ} {first b : ℕ} {work : List ℕ} {seed : ℕ} {bitmap' work' : List ℕ} (work₀ : List ℕ) → length work ≡ length work₀

@@ -10,9 +10,10 @@ use Rattle.rules.specs.Order.{Input, keysOf}
 use Rattle.rules.specs.Seed.{unbarred, seedOf, slotsOf}
 use Rattle.rings.specs.declared.Ring.{Ring}
 use Rattle.rings.specs.Level.{levelRing}
+use Rattle.best.specs.declared.Best.{Best}
 use Rattle.best.specs.Prices.{isFree, Ended}
 use Rattle.ring_keys.specs.RingKey.{ringKeys}
-use Rattle.search.specs.Rows.{rowAt}
+use Rattle.search.specs.Rows.{rowAt, bestRows}
 use Rattle.search.specs.Searching.{Held, Searched}
 
 -- the work words after the look for the best free rotation: layout r's ring keys at row r from `at` on, and the bits of its rotations, each 1 where the
@@ -36,6 +37,12 @@ pub record Laid (i : Input) (marked : List ℕ) (first b : ℕ) (ring : Ring) (l
   pub begin : start ≡ G.first (i .settings) b
   pub below : at + layouts * length keys ≤ mid
   pub room : mid + 2 * length keys ≤ to
+
+-- with the best free rotation f found, and as many words as before
+pub record LaidBest (i : Input) (marked : List ℕ) (first b : ℕ) (ring : Ring) (layouts : ℕ) (table keys : List ℕ) (start at mid to count : ℕ) (bitmap work : List ℕ) (f : Best) (after : List ℕ) : Type 0 where
+  pub laid : Laid i marked first b ring layouts table keys start at mid to count bitmap after
+  pub is : f ≡ bestRows ring table after at (length keys) to count layouts
+  pub len : length after ≡ length work
 
 -- what the pass over all free rotations asks for, and what it promises
 pub record Retrying (ring : Ring) (layouts : ℕ) (table keys : List ℕ) (start at mid to count : ℕ) (bitmap work : List ℕ) : Type 0 where

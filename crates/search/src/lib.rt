@@ -12,16 +12,18 @@ ghost use Rattle.search.specs.WorkMap.{Retrying, Retried};
 
 pub mod distinct;
 pub mod look;
+pub mod prepare;
 pub mod settle;
+pub mod usual;
 
 use crate::distinct::best_distinct;
 use crate::look::best_free;
 use crate::look::free_words;
+use crate::prepare::prepare;
 use crate::settle::seed_of;
 use crate::settle::settle;
 use geometry::place::first;
 use geometry::shape::Geometry;
-use ring_keys::fill::fill_keys;
 use rings::Ring;
 use sorting::has_equal;
 
@@ -76,8 +78,8 @@ pub fn search(
     let at = ring.words;
     let mid = at + z * layouts;
     let to = at + z * (layouts + 2);
-    fill_keys(g, keys, start, work, at);
-    let best = best_free(ring, table, work, at, size, start, to, count, layouts);
+    let total = prepare(g, ring, keys, start, work, at, to, count);
+    let best = best_free(ring, table, work, at, size, to, count, layouts, total);
     if best.cost == u64::MAX {
         return 0;
     }

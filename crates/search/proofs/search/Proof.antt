@@ -1,12 +1,12 @@
--- The ring keys are filled in and the best free rotation is looked for; where it is placed its seed is the bucket's, and where two keys meet the pass over
--- all free rotations goes on from the same words. Assumes nothing.
+-- The ring keys and free words are filled in and the best free rotation is looked for; where it is placed its seed is the bucket's, and where two keys meet
+-- the pass over all free rotations goes on from the same words. Assumes nothing.
 use mathlib.Core.Path.{_∙_}
 use Prim.Native.Nat.{_-_}
 use native.Mathlib.Omega.{arith}
 use borrow.Author.Needs.{needs}
 use Rattle.rings.specs.RingLaws.{n-le}
 use Rattle.search.specs.LaidLaws.{laid-rows, laid-map, best-in, best-zero, best-placed}
-use Rattle.search.specs.ReadyLaws.{ready-shape, bucket-in, ready-bucket, ready-small, layouts-few, layouts-room, map-fits, fill-room, keys-end, free-room, code-keys, code-prices, code-laid, searched-since}
+use Rattle.search.specs.ReadyLaws.{ready-shape, bucket-in, layouts-few, layouts-room, map-fits, code-preparing, code-looking, code-laid, searched-since}
 use Rattle.search.proofs.search.Statement.{statement}
 use Rattle.search.proofs.search.Tie as tie
 
@@ -31,53 +31,54 @@ mul-to c = let q = c .before .before .before .before .before .before .pre .ready
 add-to-2 : tie.Need-add-to-2
 add-to-2 c = let q = c .before .before .before .before .before .before .pre .ready in omega (arith, map-fits q (c .free-words .result) (c .free-words .ensures), c .before .before .before .before .before .before .good .1 .1 .1 .1 .1 .1 .1 .0 .0)
 
-fill-keys-requires : tie.Need-fill-keys-requires
-fill-keys-requires c κs = let q = c .before .before .before .before .before .before .before .pre .ready in (q .made, (ready-bucket q (c .before .before .first .ensures .0), fill-room q (c .before .before .first .ensures .0) (c .before .free-words .ensures)))
+prepare-requires : tie.Need-prepare-requires
+prepare-requires c κs = code-preparing (c .before .before .before .before .before .before .before .pre .ready) (c .before .before .first .ensures .0) (c .before .free-words .ensures)
 
 best-free-requires : tie.Need-best-free-requires
 best-free-requires c κs = let q = c .before .before .before .before .before .before .before .before .before .before .before .pre .ready in
     let es = c .before .before .before .before .before .before .first .ensures .0 in
     let w = c .before .before .before .before .before .free-words .ensures in
-    let k = c .before .before .before .fill-keys .ensures in
-    (ready-shape q, (w, ((omega arith, keys-end q es w, free-room q es w k), (code-keys q es w k, (code-prices q es w k, (ready-small q es, layouts-few q))))))
+    let k = c .before .before .before .prepare .ensures in
+    code-looking q es w k
 
 same-length : tie.Need-same-length
 same-length c = search needs
 
 returns : tie.Need-returns
 returns c = λ i marked first q. let es = c .before .before .before .before .before .before .before .before .before .before .before .first .ensures .0 in
-    let k = c .before .before .before .before .before .before .before .before .fill-keys .ensures in
+    let k = c .before .before .before .before .before .before .before .before .prepare .ensures in
     let l = c .before .before .before .before .best-free .ensures in
-    best-zero (code-laid q es (c .before .before .before .before .before .before .before .before .before .before .free-words .ensures) k l) (l .is) (c .before .before .before .before .before .before .before .before .before .before .before .before .before .before .before .before .args .work .now) (l .len ∙ k .len) (λ n. c .before .before .before .before .before .before .before .before .before .before .before .before .before .before .before .shared-slice-known .given n .fits) (c .if1 .taken)
+    let d = code-laid q es (c .before .before .before .before .before .before .before .before .before .before .free-words .ensures) k l in
+    best-zero (d .laid) (d .is) (c .before .before .before .before .before .before .before .before .before .before .before .before .before .before .before .before .args .work .now) (d .len) (λ n. c .before .before .before .before .before .before .before .before .before .before .before .before .before .before .before .shared-slice-known .given n .fits) (c .if1 .taken)
 
 mul-a : tie.Need-mul-a
 mul-a c = let q = c .before .before .before .before .before .before .before .before .before .before .before .before .before .before .before .before .before .pre .ready in
-    let k = c .before .before .before .before .before .before .before .before .before .fill-keys .ensures in
+    let k = c .before .before .before .before .before .before .before .before .before .prepare .ensures in
     let l = c .before .before .before .before .before .best-free .ensures in
     let d = code-laid q (c .before .before .before .before .before .before .before .before .before .before .before .before .first .ensures .0) (c .before .before .before .before .before .before .before .before .before .before .before .free-words .ensures) k l in
-    omega (arith, laid-rows d .keys _ (best-in d (l .is) (c .before .if1 .left) .0) .room, l .len, k .len, c .before .before .before .before .before .before .before .before .before .before .before .before .before .before .before .before .before .good .1 .1 .1 .1 .1 .1 .1 .0 .0)
+    omega (arith, laid-rows (d .laid) .keys _ (best-in (d .laid) (d .is) (c .before .if1 .left) .0) .room, d .len, c .before .before .before .before .before .before .before .before .before .before .before .before .before .before .before .before .before .good .1 .1 .1 .1 .1 .1 .1 .0 .0)
 
 add-a : tie.Need-add-a
 add-a c = let q = c .before .before .before .before .before .before .before .before .before .before .before .before .before .before .before .before .before .pre .ready in
-    let k = c .before .before .before .before .before .before .before .before .before .fill-keys .ensures in
+    let k = c .before .before .before .before .before .before .before .before .before .prepare .ensures in
     let l = c .before .before .before .before .before .best-free .ensures in
     let d = code-laid q (c .before .before .before .before .before .before .before .before .before .before .before .before .first .ensures .0) (c .before .before .before .before .before .before .before .before .before .before .before .free-words .ensures) k l in
-    omega (arith, laid-rows d .keys _ (best-in d (l .is) (c .before .if1 .left) .0) .room, l .len, k .len, c .before .before .before .before .before .before .before .before .before .before .before .before .before .before .before .before .before .good .1 .1 .1 .1 .1 .1 .1 .0 .0)
+    omega (arith, laid-rows (d .laid) .keys _ (best-in (d .laid) (d .is) (c .before .if1 .left) .0) .room, d .len, c .before .before .before .before .before .before .before .before .before .before .before .before .before .before .before .before .before .good .1 .1 .1 .1 .1 .1 .1 .0 .0)
 
 settle-requires : tie.Need-settle-requires
 settle-requires c κs = let q = c .before .before .before .before .before .before .before .before .before .before .before .before .before .before .before .before .before .before .before .pre .ready in
     let l = c .before .before .before .before .before .before .before .best-free .ensures in
     let f = c .before .before .before .before .before .before .before .best-free .result in
-    let d = code-laid q (c .before .before .before .before .before .before .before .before .before .before .before .before .before .before .first .ensures .0) (c .before .before .before .before .before .before .before .before .before .before .before .before .before .free-words .ensures) (c .before .before .before .before .before .before .before .before .before .before .before .fill-keys .ensures) l in
-    let n = best-in d (l .is) (c .before .before .before .if1 .left) in
-    let k = laid-rows d .keys (f .r) (n .0) in
-    (k .shape, ((k .above, k .room), (k .keys, ((k .begin, omega (arith, n .1, n-le (c .before .before .before .before .before .before .before .before .before .before .before .before .before .before .before .before .before .before .before .args .ring) (k .shape))), laid-map d (f .r) (n .0) (f .j)))))
+    let d = code-laid q (c .before .before .before .before .before .before .before .before .before .before .before .before .before .before .first .ensures .0) (c .before .before .before .before .before .before .before .before .before .before .before .before .before .free-words .ensures) (c .before .before .before .before .before .before .before .before .before .before .before .prepare .ensures) l in
+    let n = best-in (d .laid) (d .is) (c .before .before .before .if1 .left) in
+    let k = laid-rows (d .laid) .keys (f .r) (n .0) in
+    (k .shape, ((k .above, k .room), (k .keys, ((k .begin, omega (arith, n .1, n-le (c .before .before .before .before .before .before .before .before .before .before .before .before .before .before .before .before .before .before .before .args .ring) (k .shape))), laid-map (d .laid) (f .r) (n .0) (f .j)))))
 
 seed-of-requires : tie.Need-seed-of-requires
 seed-of-requires c κs = let q = c .before .before .before .before .before .before .before .before .before .before .before .before .before .before .before .before .before .before .before .before .before .before .before .before .before .pre .ready in
     let l = c .before .before .before .before .before .before .before .before .before .before .before .before .before .best-free .ensures in
-    let d = code-laid q (c .before .before .before .before .before .before .before .before .before .before .before .before .before .before .before .before .before .before .before .before .first .ensures .0) (c .before .before .before .before .before .before .before .before .before .before .before .before .before .before .before .before .before .before .before .free-words .ensures) (c .before .before .before .before .before .before .before .before .before .before .before .before .before .before .before .before .before .fill-keys .ensures) l in
-    let n = best-in d (l .is) (c .before .before .before .before .before .before .before .before .before .if1 .left) in
+    let d = code-laid q (c .before .before .before .before .before .before .before .before .before .before .before .before .before .before .before .before .before .before .before .before .first .ensures .0) (c .before .before .before .before .before .before .before .before .before .before .before .before .before .before .before .before .before .before .before .free-words .ensures) (c .before .before .before .before .before .before .before .before .before .before .before .before .before .before .before .before .before .prepare .ensures) l in
+    let n = best-in (d .laid) (d .is) (c .before .before .before .before .before .before .before .before .before .if1 .left) in
     (n .0, n .1, layouts-few q, n-le (c .before .before .before .before .before .before .before .before .before .before .before .before .before .before .before .before .before .before .before .before .before .before .before .before .before .args .ring) (ready-shape q))
 
 same-length-2 : tie.Need-same-length-2
@@ -87,16 +88,16 @@ same-length-3 : tie.Need-same-length-3
 same-length-3 c = search needs
 
 returns-2 : tie.Need-returns-2
-returns-2 c = λ i marked first q. let k = c .before .before .before .before .before .before .before .before .before .before .before .before .before .before .before .before .before .before .fill-keys .ensures in
+returns-2 c = λ i marked first q. let k = c .before .before .before .before .before .before .before .before .before .before .before .before .before .before .before .before .before .before .prepare .ensures in
     let l = c .before .before .before .before .before .before .before .before .before .before .before .before .before .before .best-free .ensures in
     let d = code-laid q (c .before .before .before .before .before .before .before .before .before .before .before .before .before .before .before .before .before .before .before .before .before .first .ensures .0) (c .before .before .before .before .before .before .before .before .before .before .before .before .before .before .before .before .before .before .before .before .free-words .ensures) k l in
-    best-placed d (l .is) (c .before .before .before .before .before .before .before .before .before .before .before .before .before .before .before .before .before .before .before .before .before .before .before .before .before .before .args .work .now) (l .len ∙ k .len) (c .before .before .before .before .before .before .before .before .before .before .if1 .left) (c .before .before .before .before .before .before .settle .ensures) (c .before .if2 .taken) (c .seed-of .ensures)
+    best-placed (d .laid) (d .is) (c .before .before .before .before .before .before .before .before .before .before .before .before .before .before .before .before .before .before .before .before .before .before .before .before .before .before .args .work .now) (d .len) (c .before .before .before .before .before .before .before .before .before .before .if1 .left) (c .before .before .before .before .before .before .settle .ensures) (c .before .if2 .taken) (c .seed-of .ensures)
 
 search-distinct-requires : tie.Need-search-distinct-requires
 search-distinct-requires c κs = let p = c .before .before .before .before .before .before .before .before .before .before .before .before .before .before .before .before .before .before .before .before .before .before .before .before .before .before .before .pre in
     let n = c .before .before .before .before .before .before .before .settle .ensures .no (c .before .before .if2 .left) in
-    let d = code-laid (p .ready) (c .before .before .before .before .before .before .before .before .before .before .before .before .before .before .before .before .before .before .before .before .before .before .first .ensures .0) (c .before .before .before .before .before .before .before .before .before .before .before .before .before .before .before .before .before .before .before .before .before .free-words .ensures) (c .before .before .before .before .before .before .before .before .before .before .before .before .before .before .before .before .before .before .before .fill-keys .ensures) (c .before .before .before .before .before .before .before .before .before .before .before .before .before .before .before .best-free .ensures) in
-    rw (n .0, n .1) (record { i = p .i; marked = p .marked; first = p .first; b = c .before .before .before .before .before .before .before .before .before .before .before .before .before .before .before .before .before .before .before .before .before .before .before .before .before .before .before .args .b; laid = d })
+    let d = code-laid (p .ready) (c .before .before .before .before .before .before .before .before .before .before .before .before .before .before .before .before .before .before .before .before .before .before .first .ensures .0) (c .before .before .before .before .before .before .before .before .before .before .before .before .before .before .before .before .before .before .before .before .before .free-words .ensures) (c .before .before .before .before .before .before .before .before .before .before .before .before .before .before .before .before .before .before .before .prepare .ensures) (c .before .before .before .before .before .before .before .before .before .before .before .before .before .before .before .best-free .ensures) in
+    rw (n .0, n .1) (record { i = p .i; marked = p .marked; first = p .first; b = c .before .before .before .before .before .before .before .before .before .before .before .before .before .before .before .before .before .before .before .before .before .before .before .before .before .before .before .args .b; laid = d .laid })
 
 same-length-4 : tie.Need-same-length-4
 same-length-4 c = search needs
@@ -105,11 +106,11 @@ same-length-5 : tie.Need-same-length-5
 same-length-5 c = search needs
 
 returns-3 : tie.Need-returns-3
-returns-3 c = λ i marked first q. let k = c .before .before .before .before .before .before .before .before .before .before .before .before .before .before .before .before .before .before .before .before .before .before .before .before .fill-keys .ensures in
+returns-3 c = λ i marked first q. let k = c .before .before .before .before .before .before .before .before .before .before .before .before .before .before .before .before .before .before .before .before .before .before .before .before .prepare .ensures in
     let l = c .before .before .before .before .before .before .before .before .before .before .before .before .before .before .before .before .before .before .before .before .best-free .ensures in
     let n = c .before .before .before .before .before .before .before .before .before .before .before .before .settle .ensures .no (c .before .before .before .before .before .before .before .if2 .left) in
     let d = code-laid q (c .before .before .before .before .before .before .before .before .before .before .before .before .before .before .before .before .before .before .before .before .before .before .before .before .before .before .before .first .ensures .0) (c .before .before .before .before .before .before .before .before .before .before .before .before .before .before .before .before .before .before .before .before .before .before .before .before .before .before .free-words .ensures) k l in
-    searched-since (c .before .before .before .before .before .before .before .before .before .before .before .before .before .before .before .before .before .before .before .before .before .before .before .before .before .before .before .before .before .before .before .before .args .work .now) (c .before .before .before .before .before .before .before .before .before .before .before .before .settle .kept .1 .0 ∙ l .len ∙ k .len) (c .before .before .before .before .search-distinct .ensures i marked first (c .before .before .before .before .before .before .before .before .before .before .before .before .before .before .before .before .before .before .before .before .before .before .before .before .before .before .before .before .before .before .before .before .args .b) (rw (n .0, n .1) d))
+    searched-since (c .before .before .before .before .before .before .before .before .before .before .before .before .before .before .before .before .before .before .before .before .before .before .before .before .before .before .before .before .before .before .before .before .args .work .now) (c .before .before .before .before .before .before .before .before .before .before .before .before .settle .kept .1 .0 ∙ d .len) (c .before .before .before .before .search-distinct .ensures i marked first (c .before .before .before .before .before .before .before .before .before .before .before .before .before .before .before .before .before .before .before .before .before .before .before .before .before .before .before .before .before .before .before .before .args .b) (rw (n .0, n .1) (d .laid)))
 
 pub search-spec : {M : Type 1} → statement M
 search-spec =
@@ -122,7 +123,7 @@ search-spec =
     add-to
     mul-to
     add-to-2
-    fill-keys-requires
+    prepare-requires
     best-free-requires
     same-length
     returns
