@@ -1,119 +1,14 @@
 #!/usr/bin/env python3
 """Makes the file `stdout` of this program from document 01's words alone: every candidate of rule S is tried against a set of taken slots."""
-from collections import namedtuple
-from decimal import Decimal, getcontext
+import sys
+from pathlib import Path
 
-getcontext().prec = 40
-Settings = namedtuple("Settings", "m slice ll sb buckets")
-WORD, KEPT = 2**64, 999
+sys.path.insert(0, str(Path(__file__).resolve().parents[2] / "tools"))
+from document01 import HOUSE, WORD, Geometry, Settings, counts, number, sweep
+
+KEPT = 999
 ZERO = [0] * 7
 ALL = 15200
-
-HOUSE = [0] + [round(2**24 * Decimal(d).ln() / Decimal(2).ln()) for d in range(1, 2048)]
-
-
-def power_from(x):
-    """The least power of two that is at least x."""
-    p = 1
-    while p < x:
-        p *= 2
-    return p
-
-
-# G
-class Geometry:
-    def __init__(self, s):
-        self.s = s
-        self.l = min(power_from(s.m // 2 + 1), 2**s.slice)
-        self.ns = s.m + 1 - self.l
-        log2_l = self.l.bit_length() - 1
-        self.scale = max(0, log2_l - s.sb)
-        self.layouts = 2**s.ll
-        self.t = min(s.ll + self.scale, log2_l)
-        self.n = self.l // 2**self.t
-        self.rotations = 2**s.sb // self.layouts
-        self.p = -(-self.ns // s.buckets) if s.buckets else 0
-        self.slots = power_from(4 * (self.l + 1) + 512 * self.p + 64 * 2**self.t)
-        self.entries = 95 + (self.p + 1) + self.l
-
-    def work(self, z):
-        return self.slots // 32 + z * (self.layouts + 2) + 3 * self.layouts * max(self.n, 64) + 2560
-
-    def bucket(self, h):
-        return h * self.s.buckets // WORD
-
-    def first(self, b):
-        return b * (self.ns * WORD // self.s.buckets) // WORD
-
-    def position(self, h, seed):
-        offset = h * self.s.buckets % WORD
-        shift = seed % self.layouts * (64 // self.layouts)
-        return h * self.ns // WORD + ((offset >> shift) + seed * 2**self.scale) % self.l
-
-
-# W
-def weight(weights, size):
-    if size <= 7:
-        return weights[size - 1]
-    return max(-(2**40), min(2**40, (weights[6] - weights[5]) * (size - 7) + weights[6]))
-
-
-def turns(weights, sizes):
-    left = [b for b, size in enumerate(sizes) if size]
-    while left:
-        window = [b for b in left if b < left[0] + 256]
-        b = min(window, key=lambda b: (1024 * b - weight(weights, sizes[b]), b % 1024))
-        left.remove(b)
-        yield b
-
-
-# S
-def seed_of(g, b, keys, table, taken):
-    found = []
-    for r in range(g.layouts):
-        for j in range(g.n):
-            if (r, j) == (0, 0) and g.n == g.rotations:
-                continue
-            seed = j * g.layouts + r or g.n * g.layouts
-            slots = [g.position(h, seed) for h in keys]
-            if len(set(slots)) == len(slots) and not taken.intersection(slots):
-                found.append((sum(table[x - g.first(b) + 95] for x in slots), r, j, seed))
-    return min(found)[3] if found else 0
-
-
-# the numbers 1 to 13, or 0
-def number(s, weights, hashes, begins, table, seeds, bitmap, work):
-    if not 2 <= s.sb <= 16:
-        return 1
-    if s.ll >= s.sb:
-        return 2
-    if not 3 <= s.slice <= 16:
-        return 3
-    if s.ll > 6 or s.slice * 2**s.ll > 64:
-        return 4
-    if not 1 <= s.m <= 134_217_728:
-        return 5
-    if s.buckets % 2 == 0 or s.buckets > 67_108_865:
-        return 6
-    g = Geometry(s)
-    if g.p > 4096:
-        return 7
-    if any(abs(w) > 2**32 for w in weights):
-        return 8
-    if len(begins) != s.buckets + 1 or begins[0] != 0 or begins != sorted(begins) or begins[-1] != len(hashes):
-        return 9
-    if len(hashes) > 67_108_864:
-        return 9
-    sizes = [y - x for x, y in zip(begins, begins[1:])]
-    if max(sizes) > 4096:
-        return 10
-    if any(g.bucket(h) != b for b in range(s.buckets) for h in hashes[begins[b] : begins[b + 1]]):
-        return 11
-    if len(table) < g.entries or table[: g.entries] != sorted(table[: g.entries]):
-        return 12
-    if seeds != s.buckets or bitmap != -(-s.m // 64) or work < g.work(max(sizes)):
-        return 13
-    return 0
 
 
 def case(s, weights, bump, hashes, begins, table, seeds, bitmap, work):
@@ -124,17 +19,11 @@ def case(s, weights, bump, hashes, begins, table, seeds, bitmap, work):
     else:
         g = Geometry(s)
         groups = [hashes[x:y] for x, y in zip(begins, begins[1:])]
-        found, taken, answer = [0] * s.buckets, set(), None
-        for b in turns(weights, [len(keys) for keys in groups]):
-            found[b] = seed_of(g, b, groups[b], table, taken)
-            if found[b]:
-                taken.update(g.position(h, found[b]) for h in groups[b])
-            elif not bump:
-                answer, found, taken = f"refused 14 {b}", [0] * s.buckets, set()
-                break
-        if answer is None:
-            placed = sum(len(keys) for keys, seed in zip(groups, found) if seed)
-            answer = f"done {placed} {len(hashes) - placed} {found.count(0)}"
+        stopped, found, taken = sweep(g, weights, bump, groups, table)
+        if stopped is None:
+            answer = "done {} {} {}".format(*counts(groups, found))
+        else:
+            answer = f"refused 14 {stopped}"
         given[:seeds] = found
         marked[:bitmap] = [sum(2 ** (i % 64) for i in taken if i // 64 == w) for w in range(bitmap)]
         zeros = g.work(max(map(len, groups)))

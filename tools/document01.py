@@ -1,0 +1,195 @@
+"""Document 01 word by word: rules G, W and S with every candidate tried against a set of taken slots, the numbers, and the program."""
+from collections import namedtuple
+from decimal import Decimal, getcontext
+from itertools import accumulate, chain
+
+getcontext().prec = 40
+Settings = namedtuple("Settings", "m slice ll sb buckets")
+WORD = 2**64
+
+HOUSE = [0] + [round(2**24 * Decimal(d).ln() / Decimal(2).ln()) for d in range(1, 2048)]
+
+
+def power_from(x):
+    """The least power of two that is at least x."""
+    p = 1
+    while p < x:
+        p *= 2
+    return p
+
+
+# G
+class Geometry:
+    def __init__(self, s):
+        self.s = s
+        self.l = min(power_from(s.m // 2 + 1), 2**s.slice)
+        self.ns = s.m + 1 - self.l
+        log2_l = self.l.bit_length() - 1
+        self.scale = max(0, log2_l - s.sb)
+        self.layouts = 2**s.ll
+        self.t = min(s.ll + self.scale, log2_l)
+        self.n = self.l // 2**self.t
+        self.rotations = 2**s.sb // self.layouts
+        self.p = -(-self.ns // s.buckets)
+        self.slots = power_from(4 * (self.l + 1) + 512 * self.p + 64 * 2**self.t)
+        self.entries = 95 + (self.p + 1) + self.l
+
+    def work(self, z):
+        return self.slots // 32 + z * (self.layouts + 2) + 3 * self.layouts * max(self.n, 64) + 2560
+
+    def bucket(self, h):
+        return h * self.s.buckets // WORD
+
+    def first(self, b):
+        return b * (self.ns * WORD // self.s.buckets) // WORD
+
+    def position(self, h, seed):
+        offset = h * self.s.buckets % WORD
+        shift = seed % self.layouts * (64 // self.layouts)
+        return h * self.ns // WORD + ((offset >> shift) + seed * 2**self.scale) % self.l
+
+
+# W
+def weight(weights, size):
+    if size <= 7:
+        return weights[size - 1]
+    return max(-(2**40), min(2**40, (weights[6] - weights[5]) * (size - 7) + weights[6]))
+
+
+def turns(weights, sizes):
+    left = [b for b, size in enumerate(sizes) if size]
+    while left:
+        window = [b for b in left if b < left[0] + 256]
+        b = min(window, key=lambda b: (1024 * b - weight(weights, sizes[b]), b % 1024))
+        left.remove(b)
+        yield b
+
+
+# S
+def seed_of(g, b, keys, table, taken):
+    found, first = [], g.first(b)
+    for r in range(g.layouts):
+        for j in range(g.n):
+            if (r, j) == (0, 0) and g.n == g.rotations:
+                continue
+            seed = j * g.layouts + r or g.n * g.layouts
+            slots = [g.position(h, seed) for h in keys]
+            if len(set(slots)) == len(slots) and not taken.intersection(slots):
+                found.append((sum(table[x - first + 95] for x in slots), r, j, seed))
+    return min(found)[3] if found else 0
+
+
+def sweep(g, weights, bump, groups, table):
+    """The bucket that 14 names, or None; the seeds; the taken slots."""
+    seeds, taken = [0] * len(groups), set()
+    for b in turns(weights, [len(keys) for keys in groups]):
+        seeds[b] = seed_of(g, b, groups[b], table, taken)
+        if seeds[b]:
+            taken.update(g.position(h, seeds[b]) for h in groups[b])
+        elif not bump:
+            return b, [0] * len(groups), set()
+    return None, seeds, taken
+
+
+def counts(groups, seeds):
+    """Placed, bumped, zero."""
+    placed = sum(len(keys) for keys, seed in zip(groups, seeds) if seed)
+    return placed, sum(map(len, groups)) - placed, seeds.count(0)
+
+
+# the numbers 1 to 7, or 0
+def number_to_7(s):
+    if not 2 <= s.sb <= 16:
+        return 1
+    if s.ll >= s.sb:
+        return 2
+    if not 3 <= s.slice <= 16:
+        return 3
+    if s.ll > 6 or s.slice * 2**s.ll > 64:
+        return 4
+    if not 1 <= s.m <= 134_217_728:
+        return 5
+    if s.buckets % 2 == 0 or s.buckets > 67_108_865:
+        return 6
+    return 7 if Geometry(s).p > 4096 else 0
+
+
+# the numbers 1 to 13, or 0
+def number(s, weights, hashes, begins, table, seeds, bitmap, work):
+    if number_to_7(s):
+        return number_to_7(s)
+    g = Geometry(s)
+    if any(abs(w) > 2**32 for w in weights):
+        return 8
+    if len(begins) != s.buckets + 1 or begins[0] != 0 or begins != sorted(begins) or begins[-1] != len(hashes):
+        return 9
+    if len(hashes) > 67_108_864:
+        return 9
+    sizes = [y - x for x, y in zip(begins, begins[1:])]
+    if max(sizes) > 4096:
+        return 10
+    if any(g.bucket(h) != b for b in range(s.buckets) for h in hashes[begins[b] : begins[b + 1]]):
+        return 11
+    if len(table) < g.entries or table[: g.entries] != sorted(table[: g.entries]):
+        return 12
+    if seeds != s.buckets or bitmap != -(-s.m // 64) or work < g.work(max(sizes)):
+        return 13
+    return 0
+
+
+# the program
+def house_numbers(data):
+    """Each number of the input; a ValueError where one is too long, too large or cut short."""
+    value = groups = 0
+    for byte in data:
+        value += byte % 128 << 7 * groups
+        groups += 1
+        if groups > 10 or value >= WORD:
+            raise ValueError
+        if byte < 128:
+            yield value
+            value = groups = 0
+    if groups:
+        raise ValueError
+
+
+def form(data):
+    """The settings, the weights, the bump flag and the groups of hashes; None for an error of form."""
+    numbers = house_numbers(data)
+    try:
+        m, slice_len, ll, sb, flag, *folded, buckets = [next(numbers) for _ in range(13)]
+        groups = []
+        while len(groups) < buckets:
+            size, keys = next(numbers), []
+            while len(keys) < size:
+                keys.append(next(numbers))
+            groups.append(keys)
+        left_over = next(numbers, None) is not None
+    except (ValueError, StopIteration):
+        return None
+    weights = [-(n + 1) // 2 if n % 2 else n // 2 for n in folded]
+    return None if left_over or flag > 1 else (Settings(m, slice_len, ll, sb, buckets), weights, flag == 1, groups)
+
+
+def listing(data):
+    """What the sweep list program prints for an input."""
+    asked = form(data)
+    if asked is None:
+        return "refused 18\n"
+    s, weights, bump, groups = asked
+    hashes, begins = list(chain(*groups)), [0, *accumulate(map(len, groups))]
+    if s.m > 1024 or s.buckets > 64 or len(hashes) > 128:
+        return "refused 19\n"
+    if not number_to_7(s) and Geometry(s).work(max(map(len, groups))) > 8192:
+        return "refused 19\n"
+    said = number(s, weights, hashes, begins, HOUSE, s.buckets, -(-s.m // 64), 8192)
+    if said:
+        return f"refused {said}\n"
+    stopped, seeds, taken = sweep(Geometry(s), weights, bump, groups, HOUSE)
+    if stopped is not None:
+        return f"refused 14 {stopped}\n"
+    holes = [i for i in range(s.m) if i not in taken]
+    lines = [("sweep", s.m, s.buckets, len(hashes), *counts(groups, seeds), len(holes))]
+    lines += [("bucket", b, len(keys), seeds[b]) for b, keys in enumerate(groups)]
+    lines += [("hole", i) for i in holes]
+    return "".join(" ".join(map(str, line)) + "\n" for line in lines)
