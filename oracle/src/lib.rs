@@ -11,6 +11,7 @@ mod phastr;
 pub mod random;
 pub mod shapes;
 pub mod sheets;
+pub mod stored;
 pub mod text;
 
 pub use case::{Answer, Case, Figures, Outcome, Settings, outcome};

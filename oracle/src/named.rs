@@ -2,6 +2,7 @@
 
 use crate::Case;
 use crate::cases::{DEFAULT, TOP, family, family_of, fill, settings};
+use crate::domain::{high, low};
 use crate::random::Random;
 
 type Named = (&'static str, Case);
@@ -23,22 +24,28 @@ pub fn all(seed: u64) -> Vec<Named> {
     all
 }
 
-/// Buckets of one and two keys around 1,024, whose weights differ by a bucket's step.
+/// Buckets of one and two keys around 1,024, whose weights differ by a bucket's step: 1,023 and 1,024
+/// tie.
 fn ties(random: &mut Random) -> Case {
     let mut sizes = vec![0; 1501];
     for size in &mut sizes[900..1200] {
         *size = random.from_to(1, 2);
     }
+    (sizes[1023], sizes[1024]) = (1, 2);
     let case = fill(random, settings(DEFAULT, 4000, 1501), &sizes);
     Case { weights: [0, 1024, 2048, 3072, 4096, 5120, 6144], bump: true, ..case }
 }
 
-/// The same with buckets of 64 keys and more.
+/// The same with buckets of 64 keys and more. No hash stands twice, so that there is room for most.
 fn large_ties(random: &mut Random) -> Case {
-    let sizes: Vec<usize> =
-        (0..1101).map(|b| if (1000..1050).contains(&b) { 64 + b % 3 } else { 0 }).collect();
-    let case = fill(random, settings(WIDE, 200_000, 1101), &sizes);
-    Case { weights: [0, 0, 0, 0, 0, 0, 1024], bump: true, ..case }
+    let size = |b| if (1020..1028).contains(&b) { 64 + b % 3 } else { 0 };
+    let mut key = |b| {
+        let (least, greatest) = (low(1101, b), high(1101, b));
+        least + ((random.word() as u128 * (greatest - least) as u128) >> 64) as u64
+    };
+    let buckets: Vec<Vec<u64>> =
+        (0..1101).map(|b| (0..size(b)).map(|_| key(b)).collect()).collect();
+    Case::new(settings(WIDE, 9000, 1101), true, [0, 0, 0, 0, 0, 0, 1024], &buckets)
 }
 
 /// Runs longer than the window, and than its cyclic set: first, between and last.
@@ -50,9 +57,9 @@ fn empty_runs(random: &mut Random) -> Case {
     fill(random, settings(DEFAULT, 20_000, 5001), &sizes)
 }
 
-/// Sizes about 64 in one window, under four kinds of weights.
+/// Sizes about 64 in one window, and larger ones whose weight is held, under four kinds of weights.
 fn large_buckets(random: &mut Random) -> Vec<Named> {
-    let sizes: Vec<usize> = (0..41).map(|b| [62, 63, 64, 65, 70, 3, 0, 64][b % 8]).collect();
+    let sizes: Vec<usize> = (0..41).map(|b| [62, 63, 64, 65, 140, 3, 0, 64][b % 8]).collect();
     let case = fill(random, settings(WIDE, 9000, 41), &sizes);
     let up = [0, 0, 0, 0, 0, -TOP, TOP];
     let down = [0, 0, 0, 0, 0, TOP, -TOP];

@@ -5,7 +5,7 @@ use oracle::random::Random;
 use oracle::shapes::Met;
 use oracle::{
     Answer, Case, Outcome, chunks, domain, figures, first_slices, geometry, log2_table, naive,
-    outcome, place_of, positions, sweep, text,
+    outcome, place_of, positions, stored, sweep, text,
 };
 
 const SMALL: usize = 3000;
@@ -36,6 +36,19 @@ fn every_shape_and_setting_is_met() {
     assert_eq!(met.missing(), Vec::<&str>::new(), "shapes that no case has");
     for setting in cases::all_settings() {
         assert!(met.settings.contains_key(&setting), "no case has the setting {setting:?}");
+    }
+}
+
+#[test]
+fn stored_cases_meet_all_but_the_families() {
+    let mut met = Met::default();
+    for case in stored::all(cases::SEED) {
+        assert_eq!(domain::refused(&case), None, "{:?}", case.settings);
+        met.note_case(&case);
+    }
+    assert_eq!(met.missing(), ["10^5 keys"], "shapes that no stored case has");
+    for setting in cases::all_settings() {
+        assert!(met.settings.contains_key(&setting), "no stored case has the setting {setting:?}");
     }
 }
 

@@ -1,6 +1,6 @@
 //! The oracle's command (README.md, or no argument, has its uses).
 
-use oracle::{cases, geometry, house, sheets, text, *};
+use oracle::{cases, geometry, house, sheets, stored, text, *};
 use std::io::{Read, Write};
 use std::process::ExitCode;
 use std::time::Instant;
@@ -20,7 +20,8 @@ oracle shapes CHOICE           how often the same cases meet each shape
 oracle house                   the cases on standard input in house numbers
 oracle time KEYS [SEED]        seconds of one sweep of a generated family, the best of five
 A CHOICE is SEED COUNT [LIMIT]: each setting, the named ones and COUNT small ones, without those of
-more than LIMIT keys or slots. A SEED of the generator is a number, or 'fixed'.";
+more than LIMIT keys or slots; or SEED stored: those that crates/replay stores. A SEED of the generator
+is a number, or 'fixed'.";
 
 type Words<'a> = std::slice::Iter<'a, String>;
 
@@ -36,7 +37,12 @@ fn seed(words: &mut Words) -> Result<u64, String> {
 
 /// The generated cases that a CHOICE names.
 fn chosen(words: &mut Words) -> Result<Vec<Case>, String> {
-    let (seed, count) = (seed(words)?, number(words, "the count")?);
+    let seed = seed(words)?;
+    if words.as_slice().first().is_some_and(|word| word == "stored") {
+        words.next();
+        return Ok(stored::all(seed));
+    }
+    let count = number(words, "the count")?;
     let limit = if words.len() == 0 { usize::MAX } else { number(words, "the limit")? };
     let within = |case: &Case| case.settings.m <= limit && case.hashes.len() <= limit;
     Ok(cases::all(seed, count).filter(within).collect())
