@@ -1,26 +1,25 @@
--- A key's rows added to the words of a layout, for rings of more than 64 slots: the ring's words are read one after the other.
+-- A key's slots added to the words of a layout, for rings of more than 64 slots: the words of the key's ring are read one after the other.
 -- Assumes nothing.
 use mathlib.Core.Path.{_≡_}
 use mathlib.Core.List.{List}
-use Prim.Native.Nat.{ℕ, _+_, _-_, _*_, _^_, _≤_, _<_, max}
+use Prim.Native.Nat.{ℕ, _+_, _*_, _%_, _^_, _<_, max}
 use lib.ListN.{getD}
 use Rattle.words.specs.Bit.{bit}
 use Rattle.rings.specs.declared.Ring.{Ring}
-use Rattle.rings.specs.Ring.{ringBit}
+use Rattle.rings.specs.Ring.{wordOf, bitOf, ringBit}
+use Rattle.rings.specs.Rows.{Row}
 use Rattle.rings.specs.Keys.{Key}
 use Rattle.rings.specs.Blocked.{Within, Added}
 
--- to bit j of word i, of the count words from `to` on, slot p + (64 i + j) 2^t is added
-pub record RowsAdded (g : Ring) (l : List ℕ) (p to count : ℕ) (now : List ℕ) : Type 0 where
+-- r is word k of every ring whose first slot is bit s of word base: its places 64 k to 64 k + 63
+pub record RingWord (g : Ring) (used : List ℕ) (base s k r : ℕ) : Type 0 where
+  pub row : (first : ℕ) → base ≡ wordOf (g .t) (g .words) first → s ≡ bitOf (g .t) first → Row (g .t) (g .words) used (first + 64 * k * 2 ^ (g .t)) r
+
+-- to bit j of word i, of the count words from `to` on, place (x + 64 i + j) mod n of the ring that starts at slot first is added
+pub record RingAdded (g : Ring) (l : List ℕ) (first x to count : ℕ) (now : List ℕ) : Type 0 where
   pub within : Within l to count now
   pub bits : (i j : ℕ) → i < count → j < 64
-      → bit (getD now (to + i) 0) j ≡ max (bit (getD l (to + i) 0) j) (ringBit (g .t) (g .words) l (p + (64 * i + j) * 2 ^ (g .t)))
-
--- to word `to` the last k slots of the ring from slot first on are added, and then its first ones
-pub record RoundAdded (g : Ring) (l : List ℕ) (first k to : ℕ) (now : List ℕ) : Type 0 where
-  pub within : Within l to 1 now
-  pub low : (j : ℕ) → j < k → bit (getD now to 0) j ≡ max (bit (getD l to 0) j) (ringBit (g .t) (g .words) l (first + (g .n - k + j) * 2 ^ (g .t)))
-  pub high : (j : ℕ) → j < 64 → k ≤ j → bit (getD now to 0) j ≡ max (bit (getD l to 0) j) (ringBit (g .t) (g .words) l (first + (j - k) * 2 ^ (g .t)))
+      → bit (getD now (to + i) 0) j ≡ max (bit (getD l (to + i) 0) j) (ringBit (g .t) (g .words) l (first + (x + 64 * i + j) % g .n * 2 ^ (g .t)))
 
 -- key d's slots are added to the count words of a layout from `to` on
 pub record KeyAdded (g : Ring) (l : List ℕ) (d start to count : ℕ) (now : List ℕ) : Type 0 where

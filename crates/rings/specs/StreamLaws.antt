@@ -1,208 +1,197 @@
--- The rows of a key, streamed, are its slots at all rotations.
--- Why: slots 64 2^t apart stand in neighbouring columns at one bit, so the word after is the one that the next row begins with; and a ring goes round once,
--- in the word that has its last slots and its first ones.
+-- The words of a key's ring, read one after the other and joined by two, are its slots at all rotations.
+-- Why: slots 64 2^t apart stand in neighbouring columns at one bit, so a ring's words begin at one bit of words that stand 2^t apart; and n is a multiple of
+-- 64, so the ring goes round where a word ends, and 64 places from any place on are the end of one word and the beginning of the next.
 -- Assumes nothing.
 use mathlib.Core.Path.{_≡_, refl, sym, ap, _∙_}
 use mathlib.Core.Logic.{inl, ⊎-elim}
 use mathlib.Core.List.{List}
 use Prim.Native.Nat.{ℕ, suc, _+_, _-_, _*_, _/_, _%_, _^_, _≤_, _<_, max}
 use native.Mathlib.Omega.{arith}
-use native.Mathlib.Nat.{mod-eq-of-lt, mod-add-mod, mul-le-mul-right}
-use lib.Bits.{bitOr}
+use native.Mathlib.Nat.{mod-lt, mod-eq-of-lt, mod-add-mod, mul-le-mul-right}
+use lib.Arith.{mod-mul}
+use lib.Bits.{bitAnd, bitOr}
 use lib.ListN.{length, getD, set, take}
 use lib.Seq.{getD-set-same, getD-set-other}
 use Rattle.words.specs.Bit.{bit}
 use Rattle.words.specs.BitLaws.{bit-or}
 use Rattle.words.specs.Cases.{lt-or-ge}
-use Rattle.words.specs.RowLaws.{turn-here, turn-round}
+use Rattle.words.specs.RowLaws.{pair-low, pair-high}
+use Rattle.integers.specs.Division.{pow-div}
+use Rattle.integers.specs.Shifts.{mask-is, pow-le-cancel}
 use Rattle.rings.specs.declared.Ring.{Ring}
 use Rattle.rings.specs.Ring.{Shape, Word, wordOf, bitOf, ringBit}
-use Rattle.rings.specs.Rows.{Row, Wrapped}
+use Rattle.rings.specs.Rows.{Row, Ring64}
 use Rattle.rings.specs.Keys.{placeAt, entryAt, slotAt, Key, Keys}
 use Rattle.rings.specs.Parts.{part, part-at, length-part, front-same, elem-same, part-same}
 use Rattle.rings.specs.Free.{FilledTo}
 use Rattle.rings.specs.Blocked.{Within, BegunFree, FinishedFree, Added, BlockedAll}
-use Rattle.rings.specs.Stream.{RowsAdded, RoundAdded, KeyAdded, LayoutKeys, LayoutsAdded}
-use Rattle.rings.specs.RingLaws.{n-le}
+use Rattle.rings.specs.Stream.{RingWord, RingAdded, KeyAdded, LayoutKeys, LayoutsAdded}
+use Rattle.rings.specs.RingLaws.{shape-pos, n-le, step-code}
 use Rattle.rings.specs.RowLaws.{row-joined, row-div, row-mod}
 use Rattle.rings.specs.KeyLaws.{place-turn}
 use Rattle.rings.specs.BlockedLaws.{within-none, within-then, within-wider, within-set, within-other, begun-blocked, ring-same, blocked-added, filled-all, word-in}
+use Rattle.rings.specs.FilledLaws.{whole-words}
 
--- ---- x 2^t of a place x in the ring, or of its end
+-- ---- a word of a ring
 
-pub end-le : (g : Ring) → Shape g → (x : ℕ) → x ≤ g .n → x * 2 ^ (g .t) ≤ 65536
-end-le g s x h = omega (arith, s .span, mul-le-mul-right (2 ^ (g .t)) h)
-
-pub end-code : (g : Ring) → Shape g → (x : ℕ) → x ≤ g .n → x * 2 ^ (g .t) % 2 ^ 64 ≡ x * 2 ^ (g .t)
-end-code g s x h = mod-eq-of-lt (omega (arith, end-le g s x h))
-
--- ---- row after row
-
-word-next : (t words q : ℕ) → wordOf t words (q + 64 * 2 ^ t) ≡ (wordOf t words q + 2 ^ t) % words
+word-on : (t words q k : ℕ) → wordOf t words (q + 64 * k * 2 ^ t) ≡ (wordOf t words q + k * 2 ^ t) % words
 unfolding wordOf
-word-next t words q =
-    let a : (q / 2 ^ t + 64) / 64 ≡ suc (q / 2 ^ t / 64) = omega arith in
-    let d : suc (q / 2 ^ t / 64) * 2 ^ t + q % 2 ^ t ≡ q / 2 ^ t / 64 * 2 ^ t + q % 2 ^ t + 2 ^ t = omega arith in
-    rw (row-div t q 64, row-mod t q 64, a, d, mod-add-mod) refl
+word-on t words q k =
+    let a : (q / 2 ^ t + 64 * k) / 64 ≡ q / 2 ^ t / 64 + k = omega arith in
+    let d : (q / 2 ^ t / 64 + k) * 2 ^ t + q % 2 ^ t ≡ q / 2 ^ t / 64 * 2 ^ t + q % 2 ^ t + k * 2 ^ t = omega arith in
+    rw (row-div t q (64 * k), row-mod t q (64 * k), a, d, mod-add-mod) refl
 
-bit-next : (t p i : ℕ) → bitOf t (p + 64 * i * 2 ^ t) ≡ bitOf t p
+bit-on : (t q k : ℕ) → bitOf t (q + 64 * k * 2 ^ t) ≡ bitOf t q
 unfolding bitOf
-bit-next t p i = rw (row-div t p (64 * i)) (omega arith)
+bit-on t q k = rw (row-div t q (64 * k)) (omega arith)
 
--- i rows are added, and w is the word where the next begins
-pub record Streaming (g : Ring) (l : List ℕ) (p to i w : ℕ) (now : List ℕ) : Type 0 where
-  pub at : Word (g .words) (wordOf (g .t) (g .words) (p + 64 * i * 2 ^ (g .t))) w
-  pub rows : RowsAdded g l p to i now
+-- `(base + (k << t)) & (words - 1)`
+pub on-code : (g : Ring) → Shape g → (base k : ℕ) → 64 * k < g .n → Word (g .words) ((base + k * 2 ^ (g .t)) % g .words) (bitAnd (base + k * 2 ^ (g .t) % 2 ^ 64) (g .words - 1))
+on-code g s base k h =
+    let e : bitAnd (base + k * 2 ^ (g .t) % 2 ^ 64) (g .words - 1) ≡ (base + k * 2 ^ (g .t)) % g .words =
+    rw (step-code g s k (omega arith)) (mask-is (base + k * 2 ^ (g .t)) (g .words) (s .e + g .t) (s .size)) in
+    record { is = e; lt = rw e (mod-lt (base + k * 2 ^ (g .t)) (shape-pos g s)) }
 
-pub stream-none : {g : Ring} (l : List ℕ) (p to w : ℕ) → w ≡ wordOf (g .t) (g .words) p → w < g .words → Streaming g l p to 0 w l
-stream-none {g} l p to w e lt = record {
-  at = record { is = e ∙ ap (wordOf (g .t) (g .words)) z; lt = lt };
-  rows = record { within = within-none l to 0; bits = λ i j h. absurd (omega arith) };
+pub ring-word : {g : Ring} {used : List ℕ} {base s k w x r : ℕ} → getD used w 0 < 2 ^ 64 → Word (g .words) ((base + k * 2 ^ (g .t)) % g .words) w
+    → Word (g .words) ((w + 2 ^ (g .t)) % g .words) x → r ≡ (getD used x 0 * 2 ^ 64 + getD used w 0) / 2 ^ s % 2 ^ 64 → RingWord g used base s k r
+ring-word {g} {used} {base} {s} {k} {w} {x} {r} small hw hx e = record {
+  row = λ first hb hs. row-joined {s = s} small
+      (record { is = hw .is ∙ ap (λ (y : ℕ). (y + k * 2 ^ (g .t)) % g .words) hb ∙ sym (word-on (g .t) (g .words) first k); lt = hw .lt })
+      hx (hs ∙ sym (bit-on (g .t) first k)) e;
+}
+
+-- ---- places: n is a multiple of 64
+
+module _ (g : Ring) (s : Shape g) (h : 64 ≤ g .n) where
+  place-split : (y : ℕ) → y % g .n ≡ y / 64 % (g .n / 64) * 64 + y % 64
+  place-split y = ap (λ (z : ℕ). y % z) e ∙ mod-mul y {m = g .n / 64} {c = 64} (omega arith) (omega arith)
+    where
+      e : g .n ≡ g .n / 64 * 64
+      e = omega (arith, whole-words g s h)
+
+  place-low : (x i j : ℕ) → x % 64 + j < 64 → (x + 64 * i + j) % g .n ≡ (x / 64 + i) % (g .n / 64) * 64 + (x % 64 + j)
+  place-low x i j l =
+      let a : (x + 64 * i + j) / 64 ≡ x / 64 + i = omega arith in
+      let b : (x + 64 * i + j) % 64 ≡ x % 64 + j = omega arith in
+      rw (place-split (x + 64 * i + j), a, b) refl
+
+  place-high : (x i j : ℕ) → j < 64 → 64 ≤ x % 64 + j → (x + 64 * i + j) % g .n ≡ (x / 64 + (i + 1)) % (g .n / 64) * 64 + (x % 64 + j - 64)
+  place-high x i j hj l =
+      let a : (x + 64 * i + j) / 64 ≡ x / 64 + (i + 1) = omega arith in
+      let b : (x + 64 * i + j) % 64 ≡ x % 64 + j - 64 = omega arith in
+      rw (place-split (x + 64 * i + j), a, b) refl
+
+  -- `(k + 1) & (n / 64 - 1)`
+  next-place : (k : ℕ) → bitAnd (k + 1) (g .n / 64 - 1) ≡ (k + 1) % (g .n / 64)
+  next-place k = mask-is (k + 1) (g .n / 64) (s .k - 6) (rw (s .ring) (pow-div (s .k) 6 six))
+    where
+      six : 6 ≤ s .k
+      six = pow-le-cancel (rw (s .ring) at h)
+
+  pub next-lt : (k : ℕ) → 64 * bitAnd (k + 1) (g .n / 64 - 1) < g .n
+  next-lt k =
+      let lt : (k + 1) % (g .n / 64) < g .n / 64 = mod-lt (k + 1) (omega arith) in
+      rw (next-place k) (omega arith)
+
+-- ---- word after word of the ring
+
+-- i words are added, and low is word k of the ring, with which the next begins
+pub record Streaming (g : Ring) (l : List ℕ) (first x to i k low : ℕ) (now : List ℕ) : Type 0 where
+  pub at : Word (g .n / 64) ((x / 64 + i) % (g .n / 64)) k
+  pub small : low < 2 ^ 64
+  pub row : Row (g .t) (g .words) l (first + 64 * k * 2 ^ (g .t)) low
+  pub added : RingAdded g l first x to i now
+
+pub stream-none : {g : Ring} {l : List ℕ} {first x low base s : ℕ} (to : ℕ) → Shape g → 64 ≤ g .n → x < g .n → low < 2 ^ 64
+    → base ≡ wordOf (g .t) (g .words) first → s ≡ bitOf (g .t) first → RingWord g l base s (x / 64) low → Streaming g l first x to 0 (x / 64) low l
+stream-none {g} {l} {first} {x} {low} to sh hn hx small hb hs a = record {
+  at = record { is = sym (ap (λ (y : ℕ). y % (g .n / 64)) z ∙ mod-eq-of-lt lt); lt = lt };
+  small = small;
+  row = a .row first hb hs;
+  added = record { within = within-none l to 0; bits = λ i j h. absurd (omega arith) };
 }
   where
-    z : p ≡ p + 64 * 0 * 2 ^ (g .t)
+    z : x / 64 + 0 ≡ x / 64
     z = omega arith
 
-pub stream-more : {g : Ring} {l l' : List ℕ} {p to i w x lo s r : ℕ} → g .words ≤ to → to + i < length l → Streaming g l p to i w l' → s ≡ bitOf (g .t) p
-    → lo ≡ getD l w 0 → lo < 2 ^ 64 → Word (g .words) ((w + 2 ^ (g .t)) % g .words) x → r ≡ (getD l' x 0 * 2 ^ 64 + lo) / 2 ^ s % 2 ^ 64
-    → Streaming g l p to (i + 1) x (set l' (to + i) (bitOr (getD l' (to + i) 0) r))
-stream-more {g} {l} {l'} {p} {to} {i} {w} {x} {lo} {s} {r} ring lt a hs hlo small hx e = record {
-  at = record {
-    is = hx .is ∙ ap (λ (y : ℕ). (y + 2 ^ (g .t)) % g .words) (a .at .is) ∙ sym (word-next (g .t) (g .words) (p + 64 * i * 2 ^ (g .t))) ∙ ap (wordOf (g .t) (g .words)) next;
-    lt = hx .lt;
-  };
-  rows = record {
-    within = within-set (to + i) (bitOr (getD l' (to + i) 0) r) (omega arith) (omega arith) (within-wider to (i + 1) (omega arith) (omega arith) (a .rows .within));
-    bits = λ k j h hj. ⊎-elim
-        (λ (b : k < i). rw (getD-set-other l' (to + i) (to + k) (bitOr (getD l' (to + i) 0) r) 0 (omega arith)) (a .rows .bits k j b hj))
-        (λ (b : i ≤ k).
-        let y : k ≡ i = omega arith in
-        rw (y, getD-set-same l' (to + i) (bitOr (getD l' (to + i) 0) r) 0 (omega (arith, a .rows .within .len)), bit-or, a .rows .within .after (to + i) (omega arith), row .at j hj, slot j) refl)
-        (lt-or-ge k i);
-  };
+    lt : x / 64 < g .n / 64
+    lt = omega (arith, whole-words g sh hn)
+
+-- two words of the ring, joined
+module _ {g : Ring} {l : List ℕ} (first x i : ℕ) {k k' low high r : ℕ} (sh : Shape g) (hn : 64 ≤ g .n) (hk : k ≡ (x / 64 + i) % (g .n / 64)) (hk' : k' ≡ (x / 64 + (i + 1)) % (g .n / 64))
+    (small : low < 2 ^ 64) (a : Row (g .t) (g .words) l (first + 64 * k * 2 ^ (g .t)) low) (b : Row (g .t) (g .words) l (first + 64 * k' * 2 ^ (g .t)) high)
+    (e : r ≡ (high * 2 ^ 64 + low) / 2 ^ (x % 64) % 2 ^ 64) where
+  slot : (y c : ℕ) → first + 64 * y * 2 ^ (g .t) + c * 2 ^ (g .t) ≡ first + (y * 64 + c) * 2 ^ (g .t)
+  slot y c = omega arith
+
+  joined-low : (j : ℕ) → x % 64 + j < 64 → bit r j ≡ ringBit (g .t) (g .words) l (first + (x + 64 * i + j) % g .n * 2 ^ (g .t))
+  joined-low j h =
+      rw e (pair-low low high (x % 64) j small h) ∙ a .at (x % 64 + j) h ∙ ap (ringBit (g .t) (g .words) l) (slot k (x % 64 + j) ∙ rw (hk, place-low g sh hn x i j h) refl)
+
+  joined-high : (j : ℕ) → j < 64 → 64 ≤ x % 64 + j → bit r j ≡ ringBit (g .t) (g .words) l (first + (x + 64 * i + j) % g .n * 2 ^ (g .t))
+  joined-high j hj h =
+      rw e (pair-high low high (x % 64) j small hj h)
+      ∙ b .at (x % 64 + j - 64) (omega arith)
+      ∙ ap (ringBit (g .t) (g .words) l) (slot k' (x % 64 + j - 64) ∙ rw (hk', place-high g sh hn x i j hj h) refl)
+
+  joined : Ring64 (g .t) (g .words) (g .n) l first (x + 64 * i) r
+  joined = record { at = λ j hj hn. ⊎-elim (λ (h : x % 64 + j < 64). joined-low j h) (λ (h : 64 ≤ x % 64 + j). joined-high j hj h) (lt-or-ge (x % 64 + j) 64) }
+
+ring-added : {g : Ring} {l l' : List ℕ} {first x to i r : ℕ} → 64 ≤ g .n → to + i < length l → RingAdded g l first x to i l' → Ring64 (g .t) (g .words) (g .n) l first (x + 64 * i) r
+    → RingAdded g l first x to (i + 1) (set l' (to + i) (bitOr (getD l' (to + i) 0) r))
+ring-added {g} {l} {l'} {first} {x} {to} {i} {r} hn lt a b = record {
+  within = within-set (to + i) (bitOr (getD l' (to + i) 0) r) (omega arith) (omega arith) (within-wider to (i + 1) (omega arith) (omega arith) (a .within));
+  bits = λ q j h hj. ⊎-elim
+      (λ (p : q < i). rw (getD-set-other l' (to + i) (to + q) (bitOr (getD l' (to + i) 0) r) 0 (omega arith)) (a .bits q j p hj))
+      (λ (p : i ≤ q).
+      let y : q ≡ i = omega arith in
+      rw (y, getD-set-same l' (to + i) (bitOr (getD l' (to + i) 0) r) 0 (omega (arith, a .within .len)), bit-or, a .within .after (to + i) (omega arith), b .at j hj (omega arith)) refl)
+      (lt-or-ge q i);
+}
+
+pub stream-more : {g : Ring} {l l' : List ℕ} {first x to i k low high base s r : ℕ} → Shape g → 64 ≤ g .n → g .words ≤ to → to + i < length l → Streaming g l first x to i k low l'
+    → base ≡ wordOf (g .t) (g .words) first → s ≡ bitOf (g .t) first → high < 2 ^ 64 → RingWord g l' base s (bitAnd (k + 1) (g .n / 64 - 1)) high
+    → r ≡ (high * 2 ^ 64 + low) / 2 ^ (x % 64) % 2 ^ 64
+    → Streaming g l first x to (i + 1) (bitAnd (k + 1) (g .n / 64 - 1)) high (set l' (to + i) (bitOr (getD l' (to + i) 0) r))
+stream-more {g} {l} {l'} {first} {x} {to} {i} {k} {low} {high} {base} {s} {r} sh hn ring lt a hb hs small b e = record {
+  at = record { is = next; lt = rw next (mod-lt (x / 64 + (i + 1)) (omega arith)) };
+  small = small;
+  row = row;
+  added = ring-added hn lt (a .added) (joined first x i sh hn (a .at .is) next (a .small) (a .row) row e);
 }
   where
-    next : p + 64 * i * 2 ^ (g .t) + 64 * 2 ^ (g .t) ≡ p + 64 * (i + 1) * 2 ^ (g .t)
-    next = omega arith
+    next : bitAnd (k + 1) (g .n / 64 - 1) ≡ (x / 64 + (i + 1)) % (g .n / 64)
+    next =
+        let m : x / 64 + i + 1 ≡ x / 64 + (i + 1) = omega arith in
+        next-place g sh hn k ∙ rw (a .at .is, mod-add-mod, m) refl
 
-    slot : (j : ℕ) → p + 64 * i * 2 ^ (g .t) + j * 2 ^ (g .t) ≡ p + (64 * i + j) * 2 ^ (g .t)
-    slot j = omega arith
+    same : take (g .words) l' ≡ take (g .words) l
+    same = front-same l' l to (g .words) ring (a .added .within .front)
 
-    high : getD l' x 0 ≡ getD l x 0
-    high = elem-same l' l to x (omega (arith, hx .lt)) (a .rows .within .front)
+    row : Row (g .t) (g .words) l (first + 64 * bitAnd (k + 1) (g .n / 64 - 1) * 2 ^ (g .t)) high
+    row = record {
+      at = λ j h. b .row first hb hs .at j h ∙ ring-same g sh l' l same (first + 64 * bitAnd (k + 1) (g .n / 64 - 1) * 2 ^ (g .t) + j * 2 ^ (g .t));
+    }
 
-    row : Row (g .t) (g .words) l (p + 64 * i * 2 ^ (g .t)) r
-    row = row-joined {s = s} (rw (← hlo) small) (a .at) hx (hs ∙ sym (bit-next (g .t) p i)) (rw (high, hlo) at e)
+-- ---- a key's slots are its ring from the key's place on
 
--- the ring's words are those of the list at the start
-pub stream-word : {g : Ring} {l l' : List ℕ} {p to i w : ℕ} (x : ℕ) → g .words ≤ to → x < g .words → Streaming g l p to i w l' → getD l' x 0 ≡ getD l x 0
-stream-word {g} {l} {l'} {p} {to} x ring lt a = elem-same l' l to x (omega arith) (a .rows .within .front)
+slot-place : (g : Ring) (start d x : ℕ) → Key start d → Word (g .n) (placeAt g d 0) x → (m : ℕ) → slotAt g start d m ≡ d / 2 ^ 32 + start - 95 + (x + m) % g .n * 2 ^ (g .t)
+unfolding slotAt entryAt
+slot-place g start d x key hx m = rw (place-turn g d m, ← hx .is) (omega (arith, key .ahead))
 
--- ---- the word where the ring goes round
-
-pub round-added : {g : Ring} {l : List ℕ} {first k to p a b r : ℕ} → k < 64 → p ≡ first + (g .n - k) * 2 ^ (g .t) → Row (g .t) (g .words) l p a → Row (g .t) (g .words) l first b → Wrapped a b k r
-    → to < length l → RoundAdded g l first k to (set l to (bitOr (getD l to 0) r))
-round-added {g} {l} {first} {k} {to} {p} {a} {b} {r} hk pe ha hb w lt = record {
-  within = within-set to (bitOr (getD l to 0) r) (omega arith) (omega arith) (within-none l to 1);
-  low = λ j h. rw (getD-set-same l to (bitOr (getD l to 0) r) 0 lt, bit-or, w .low j h, ha .at j (omega arith), pe, slot j) refl;
-  high = λ j hj h. rw (getD-set-same l to (bitOr (getD l to 0) r) 0 lt, bit-or, w .high j hj h, hb .at (j - k) (omega arith)) refl;
-}
-  where
-    slot : (j : ℕ) → first + (g .n - k) * 2 ^ (g .t) + j * 2 ^ (g .t) ≡ first + (g .n - k + j) * 2 ^ (g .t)
-    slot j = omega arith
-
--- ---- a key's slots
-
-module _ (g : Ring) (start d x : ℕ) (key : Key start d) (hx : Word (g .n) (placeAt g d 0) x) where
-  slot-place : (m : ℕ) → slotAt g start d m ≡ d / 2 ^ 32 + start - 95 + (x + m) % g .n * 2 ^ (g .t)
-  unfolding slotAt entryAt
-  slot-place m = rw (place-turn g d m, ← hx .is) (omega (arith, key .ahead))
-
-  slot-here : (m : ℕ) → x + m < g .n → slotAt g start d m ≡ d / 2 ^ 32 + start - 95 + (x + m) * 2 ^ (g .t)
-  slot-here m h = slot-place m ∙ ap (λ (y : ℕ). d / 2 ^ 32 + start - 95 + y * 2 ^ (g .t)) (turn-here (g .n) x m h)
-
-  slot-round : (m : ℕ) → m < g .n → g .n ≤ x + m → slotAt g start d m ≡ d / 2 ^ 32 + start - 95 + (x + m - g .n) * 2 ^ (g .t)
-  slot-round m hm h = slot-place m ∙ ap (λ (y : ℕ). d / 2 ^ 32 + start - 95 + y * 2 ^ (g .t)) (turn-round (g .n) x m (hx .lt) hm h)
-
-  -- rows that begin at the key's place and end before the ring does
-  straight : (m : ℕ) {p : ℕ} → p ≡ d / 2 ^ 32 + start - 95 + x * 2 ^ (g .t) → x + m < g .n → p + m * 2 ^ (g .t) ≡ slotAt g start d m
-  straight m {p} e h = rw (e, slot-here m h) (omega arith)
-
-  -- rows that begin y places after the ring's first slot
-  behind : (m y i : ℕ) {p : ℕ} → p ≡ d / 2 ^ 32 + start - 95 + y * 2 ^ (g .t) → m < g .n → g .n ≤ x + m → x + m - g .n ≡ y + i → p + i * 2 ^ (g .t) ≡ slotAt g start d m
-  behind m y i {p} e hm h f = rw (e, slot-round m hm h, f) (omega arith)
-
--- all words stand before the place where the ring goes round
-pub key-straight : {g : Ring} {l now : List ℕ} {d start x p to count : ℕ} → Key start d → Word (g .n) (placeAt g d 0) x → p ≡ d / 2 ^ 32 + start - 95 + x * 2 ^ (g .t)
-    → x + 64 * count ≤ g .n → RowsAdded g l p to count now → KeyAdded g l d start to count now
-key-straight {g} {l} {now} {d} {start} {x} {p} {to} {count} key hx pe le a = record {
+pub key-added : {g : Ring} {l now : List ℕ} {d start x to count : ℕ} → Key start d → Word (g .n) (placeAt g d 0) x → RingAdded g l (d / 2 ^ 32 + start - 95) x to count now
+    → KeyAdded g l d start to count now
+key-added {g} {l} {now} {d} {start} {x} {to} {count} key hx a = record {
   within = a .within;
   words = λ k h. record {
-    at = λ j hj hn. a .bits k j h hj ∙ ap (λ (y : ℕ). max (bit (getD l (to + k) 0) j) (ringBit (g .t) (g .words) l y)) (straight g start d x key hx (64 * k + j) pe (omega arith));
+    at = λ j hj hn. a .bits k j h hj ∙ ap (λ (y : ℕ). max (bit (getD l (to + k) 0) j) (ringBit (g .t) (g .words) l y)) (slot k j);
   };
 }
-
--- whole words of rows, the word where the ring goes round, and the words behind it
-module _ {g : Ring} {l l₁ l₂ now : List ℕ} {d start x p p' to count whole k : ℕ} (s : Shape g) (ring : g .words ≤ to) (key : Key start d) (hx : Word (g .n) (placeAt g d 0) x)
-    (left : x + 64 * whole + k ≡ g .n) (hk : k < 64) (lt : whole < count) (le : 64 * count ≤ g .n)
-    (pe : p ≡ d / 2 ^ 32 + start - 95 + x * 2 ^ (g .t)) (pe' : p' ≡ d / 2 ^ 32 + start - 95 + (64 - k) * 2 ^ (g .t))
-    (a : RowsAdded g l p to whole l₁) (b : RoundAdded g l₁ (d / 2 ^ 32 + start - 95) k (to + whole) l₂) (c : RowsAdded g l₂ p' (to + whole + 1) (count - whole - 1) now) where
-  -- the ring stays as it is
-  ring₁ : take (g .words) l₁ ≡ take (g .words) l
-  ring₁ = front-same l₁ l to (g .words) ring (a .within .front)
-
-  ring₂ : take (g .words) l₂ ≡ take (g .words) l
-  ring₂ = front-same l₂ l₁ (to + whole) (g .words) (omega arith) (b .within .front) ∙ ring₁
-
-  before-word : (i : ℕ) → i < whole → Added g l d start i (getD l (to + i) 0) (getD now (to + i) 0)
-  before-word i h = rw (within-other (c .within) (to + i) (inl (omega arith)), within-other (b .within) (to + i) (inl (omega arith))) (record {
-    at = λ j hj hn. a .bits i j h hj ∙ ap (λ (y : ℕ). max (bit (getD l (to + i) 0) j) (ringBit (g .t) (g .words) l y)) (straight g start d x key hx (64 * i + j) pe (omega arith));
-  })
-
-  round-word : Added g l d start whole (getD l (to + whole) 0) (getD now (to + whole) 0)
-  round-word = rw (within-other (c .within) (to + whole) (inl (omega arith)), ← a .within .after (to + whole) (omega arith)) (record {
-    at = λ j hj hn. ⊎-elim (λ (h : j < k). b .low j h ∙ same j (slot-low j h)) (λ (h : k ≤ j). b .high j hj h ∙ same j (slot-high j hj h)) (lt-or-ge j k);
-  })
-    where
-      same : (j : ℕ) {y : ℕ} → y ≡ slotAt g start d (64 * whole + j)
-          → max (bit (getD l₁ (to + whole) 0) j) (ringBit (g .t) (g .words) l₁ y) ≡ max (bit (getD l₁ (to + whole) 0) j) (ringBit (g .t) (g .words) l (slotAt g start d (64 * whole + j)))
-      same j {y} e = rw (e, ring-same g s l₁ l ring₁ (slotAt g start d (64 * whole + j))) refl
-
-      slot-low : (j : ℕ) → j < k → d / 2 ^ 32 + start - 95 + (g .n - k + j) * 2 ^ (g .t) ≡ slotAt g start d (64 * whole + j)
-      slot-low j h =
-          let e : g .n - k + j ≡ x + (64 * whole + j) = omega arith in
-          rw (e, slot-here g start d x key hx (64 * whole + j) (omega arith)) refl
-
-      slot-high : (j : ℕ) → j < 64 → k ≤ j → d / 2 ^ 32 + start - 95 + (j - k) * 2 ^ (g .t) ≡ slotAt g start d (64 * whole + j)
-      slot-high j hj h =
-          let e : x + (64 * whole + j) - g .n ≡ j - k = omega arith in
-          rw (slot-round g start d x key hx (64 * whole + j) (omega arith) (omega arith), e) refl
-
-  behind-word : (i : ℕ) → whole < i → i < count → Added g l d start i (getD l (to + i) 0) (getD now (to + i) 0)
-  behind-word i h hi = rw (word, ← old) (record { at = λ j hj hn. c .bits (i - whole - 1) j (omega arith) hj ∙ same j hj })
-    where
-      word : to + i ≡ to + whole + 1 + (i - whole - 1)
-      word = omega arith
-
-      old : getD l₂ (to + whole + 1 + (i - whole - 1)) 0 ≡ getD l (to + whole + 1 + (i - whole - 1)) 0
-      old = b .within .after (to + whole + 1 + (i - whole - 1)) (omega arith) ∙ a .within .after (to + whole + 1 + (i - whole - 1)) (omega arith)
-
-      same : (j : ℕ) → j < 64 → max (bit (getD l₂ (to + whole + 1 + (i - whole - 1)) 0) j) (ringBit (g .t) (g .words) l₂ (p' + (64 * (i - whole - 1) + j) * 2 ^ (g .t)))
-          ≡ max (bit (getD l₂ (to + whole + 1 + (i - whole - 1)) 0) j) (ringBit (g .t) (g .words) l (slotAt g start d (64 * i + j)))
-      same j hj = rw (behind g start d x key hx (64 * i + j) (64 - k) (64 * (i - whole - 1) + j) pe' (omega arith) (omega arith) (omega arith), ring-same g s l₂ l ring₂ (slotAt g start d (64 * i + j))) refl
-
-  pub key-round : KeyAdded g l d start to count now
-  key-round = record {
-    within = within-then (within-wider to count (omega arith) (omega arith) (a .within))
-        (within-then (within-wider to count (omega arith) (omega arith) (b .within)) (within-wider to count (omega arith) (omega arith) (c .within)));
-    words = λ i h. ⊎-elim
-        (λ (e : i < whole). before-word i e)
-        (λ (e : whole ≤ i). ⊎-elim
-        (λ (f : whole < i). behind-word i f h)
-        (λ (f : i ≤ whole). let y : i ≡ whole = omega arith in rw y round-word)
-        (lt-or-ge whole i))
-        (lt-or-ge i whole);
-  }
+  where
+    slot : (k j : ℕ) → d / 2 ^ 32 + start - 95 + (x + 64 * k + j) % g .n * 2 ^ (g .t) ≡ slotAt g start d (64 * k + j)
+    slot k j =
+        let e : x + 64 * k + j ≡ x + (64 * k + j) = omega arith in
+        rw e (sym (slot-place g start d x key hx (64 * k + j)))
 
 -- ---- one key of each layout
 

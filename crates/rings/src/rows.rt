@@ -46,7 +46,7 @@ fn turn(row: u64, n: usize, x: usize) -> u64
 }
 
 // The low k bits of a, and above them those of b.
-pub fn wrap(a: u64, b: u64, k: usize) -> u64
+fn wrap(a: u64, b: u64, k: usize) -> u64
     requires { ⌜ k < 64 ⌝ }
     ensures { λ r. ⌜ Wrapped a b k r ⌝ }
 {
