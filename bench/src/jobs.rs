@@ -1,8 +1,9 @@
 //! What is measured: a job of ours and the same job of the Rust, on one family of keys.
 
+use compare::{input, settings};
 use oracle::{Case, log2_table, lookups};
-use phastr::lent::{self, Input, Output};
-use phastr::{BUMPED, Counts, Error, Settings};
+use phastr::lent::{self, Output};
+use phastr::{BUMPED, Counts, Error};
 use std::hint::black_box;
 
 #[derive(Clone, Copy, Debug, PartialEq, Eq)]
@@ -40,17 +41,6 @@ pub struct Bench {
     found: Vec<Option<usize>>,
 }
 
-fn settings(case: &Case) -> Settings {
-    let s = &case.settings;
-    Settings {
-        slots: s.m as u64,
-        log2_slice_len: s.log2_slice_len,
-        log2_layouts: s.log2_layouts,
-        seed_bits: s.seed_bits,
-        buckets: s.buckets as u64,
-    }
-}
-
 impl Bench {
     /// The buffers, and the level that holes and lookups are asked about.
     pub fn new(case: Case, job: Job) -> Bench {
@@ -73,14 +63,7 @@ impl Bench {
     }
 
     fn sweep(&mut self, words: usize) -> Result<Counts, Error> {
-        let input = Input {
-            settings: settings(&self.case),
-            weights: self.case.weights,
-            bump: self.case.bump,
-            hashes: &self.case.hashes,
-            begins: &self.case.begins,
-            table: &self.table,
-        };
+        let input = input(&self.case, &self.table);
         let (seeds, bitmap) = (&mut self.seeds[..], &mut self.bitmap[..]);
         lent::sweep(&input, Output { seeds, bitmap, work: &mut self.work[..words] })
     }

@@ -2,9 +2,10 @@
 
 use crate::rust::{Level, SINGLE, Wanted};
 use crate::tally::Tally;
+use compare::{input, settings};
 use oracle::{Case, log2_table};
-use phastr::lent::{self, Input, Output};
-use phastr::{BUMPED, Builder, Counts, Error, Settings};
+use phastr::lent::{self, Output};
+use phastr::{BUMPED, Builder, Counts, Error};
 
 /// The entries of the longest table that any settings ask for.
 pub const LONGEST_TABLE: usize = 95 + 4097 + 65_536;
@@ -66,14 +67,7 @@ impl Ours {
         self.bitmap.resize(sizes.bitmap, RUBBISH);
         self.work.clear();
         self.work.resize(sizes.work, RUBBISH);
-        let input = Input {
-            settings,
-            weights: case.weights,
-            bump: case.bump,
-            hashes: &case.hashes,
-            begins: &case.begins,
-            table: &self.table,
-        };
+        let input = input(case, &self.table);
         let output =
             Output { seeds: &mut self.seeds, bitmap: &mut self.bitmap, work: &mut self.work };
         lent::sweep(&input, output)
@@ -122,17 +116,6 @@ pub fn compare_owned(case: &Case, bucket_size: f64, wanted: &Wanted, tally: &mut
     let slots: Vec<u64> =
         level.lookup_all(&case.hashes).into_iter().map(|slot| slot.unwrap_or(BUMPED)).collect();
     tally.all_same("slots", &slots, &wanted.slots);
-}
-
-fn settings(case: &Case) -> Settings {
-    let s = &case.settings;
-    Settings {
-        slots: s.m as u64,
-        log2_slice_len: s.log2_slice_len,
-        log2_layouts: s.log2_layouts,
-        seed_bits: s.seed_bits,
-        buckets: s.buckets as u64,
-    }
 }
 
 fn counts_in(counts: Counts) -> [u64; 3] {
