@@ -1,19 +1,16 @@
 -- What the free words say: a rotation is free exactly if it is not barred and the slots that it gives the keys are not used; a layout's words have its free
 -- rotations as slots, with none from n on; and a total of 0 is that no rotation is free.
 -- Assumes nothing.
-use mathlib.Core.Path.{_≡_, refl, sym, ap, _∙_}
+use mathlib.Core.Path.{_≡_, refl, ap, _∙_}
 use mathlib.Core.Logic.{⊎-elim}
 use mathlib.Core.List.{List}
 use Prim.Native.Nat.{ℕ, zero, suc, _+_, _-_, _*_, _/_, _%_, _^_, _≤_, _<_}
 use native.Mathlib.Omega.{arith}
-use native.Mathlib.Nat.{mul-le-mul-right}
 use lib.ListN.{length, getD, drop}
 use lib.Seq.{getD-drop}
 use Rattle.words.specs.Bit.{bit}
 use Rattle.words.specs.Cases.{lt-or-ge}
-use Rattle.words.specs.Map.{Words, slot, tally}
-use Rattle.words.specs.MapLaws.{slot-drop}
-use Rattle.words.specs.TallyLaws.{tally-ones, tally-free}
+use Rattle.words.specs.Map.{slot}
 use Rattle.integers.specs.Division.{pow-split}
 use Rattle.integers.specs.Shifts.{pow-le-cancel}
 use Rattle.rings.specs.declared.Ring.{Ring}
@@ -74,18 +71,3 @@ module _ {g : Ring} {l : List ℕ} {at size start to count layouts total : ℕ} 
       (λ (h : g .n < 64). slot-word j ∙ f .words q (j / 64) lt (omega arith) .past (j % 64) (omega arith) (omega arith))
       (λ (h : 64 ≤ g .n). absurd (omega (arith, whole-words g s h)))
       (lt-or-ge (g .n) 64)
-
-  -- no rotation is free
-  pub none-free : Words now → total ≡ 0 → (j : ℕ) → j < g .n → j < 64 * count → freeAt g l (part l (at + q * size) size) start q j ≡ 0
-  none-free small z j hn hc =
-      let none : tally (drop to now) (layouts * count * 64) ≡ 0 = tally-ones (drop to now) (layouts * count) (λ k. rw (getD-drop to now k 0) (small (to + k))) ∙ sym (f .sum) ∙ z in
-      sym (filled-slot j hn hc) ∙ whole ∙ tally-free (drop to now) (layouts * count * 64) (64 * (q * count) + j) none (omega (arith, mul-le-mul-right count lt, more))
-    where
-      more : suc q * count ≡ q * count + count
-      more = omega arith
-
-      apart : 64 * (to + q * count) + j ≡ 64 * to + (64 * (q * count) + j)
-      apart = omega arith
-
-      whole : slot (drop (to + q * count) now) j ≡ slot (drop to now) (64 * (q * count) + j)
-      whole = slot-drop now (to + q * count) j ∙ ap (slot now) apart ∙ sym (slot-drop now to (64 * (q * count) + j))

@@ -52,9 +52,6 @@ module _ {i : Input} {marked : List ℕ} {first : ℕ} {g : Geometry} {ring : Ri
   pub bucket-in : b ≤ g .settings .buckets
   bucket-in = rw (q .settings) (omega (arith, q .held .inside))
 
-  pub size-small : length keys ≤ 4096
-  size-small = omega (arith, q .few, q .most)
-
   module _ {start : ℕ} (es : start ≡ G.first (g .settings) b) where
     pub ready-start : start ≡ G.first (i .settings) b
     ready-start = rw (q .settings) at es
