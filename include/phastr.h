@@ -6,7 +6,7 @@
  * slots at the least cost. A bucket that no seed fits is bumped, its keys being left to another
  * level; slots that no key took are holes. examples/c/level.c shows the whole way.
  *
- * Link libexports.a (tools/library makes it); it needs memcpy and memset of the C library alone.
+ * Link libphastr.a (tools/library makes it); it needs memcpy and memset of the C library alone.
  *
  * Settings. Every call takes the level's settings in this order:
  *   m               slots: 1 to 2^27

@@ -2,7 +2,7 @@
  * Two levels by way of the library: document 01's listing, and some thousand generated keys.
  *
  *   folder=$(tools/library)
- *   cc -std=c99 -Wall -Wextra -Werror -Iinclude examples/c/level.c "$folder/libexports.a" -o level
+ *   cc -std=c99 -Wall -Wextra -Werror -Iinclude examples/c/level.c "$folder/libphastr.a" -o level
  *   ./level
  */
 #include <inttypes.h>

@@ -1,37 +1,42 @@
-//! Document 01's numbers as an error.
+//! Why a call is refused.
 
 use std::fmt;
 
-/// Why a call was refused: one of document 01's numbers. [`Error::number`] gives the number, and
-/// its text the number and the document's words.
+/// Why a call was refused. Its text says it in the words of this crate's own settings, with the number that
+/// C and the project's documents know it by behind; docs/RULES.md of the project says of each number what
+/// to do about it. Of several that apply a call answers the first by number, unless it says otherwise.
 ///
 /// ```
 /// let error = phastr::lent::bucket_count(10, 100, 0.5).unwrap_err();
 /// assert_eq!(error, phastr::Error::BucketSize);
 /// assert_eq!(error.number(), 16);
-/// assert_eq!(error.to_string(), "refused 16: bucket size not in 1 to min(2^log2_slice_len/8, 64), NaN included");
+/// assert_eq!(
+///     error.to_string(),
+///     "bucket_size is not from 1 to 64, or above an eighth of the slice length (number 16)"
+/// );
 /// ```
 #[derive(Clone, Copy, Debug, PartialEq, Eq, Hash)]
+#[non_exhaustive]
 pub enum Error {
-    /// 1: the bits of a seed are outside 2 to 16.
+    /// 1: `seed_bits` is not from 2 to 16.
     SeedBits,
-    /// 2: there are not fewer bits for layouts than for seeds.
+    /// 2: `log2_layouts` is not below `seed_bits`.
     Layouts,
-    /// 3: log2_slice_len is outside 3 to 16.
+    /// 3: `log2_slice_len` is not from 3 to 16.
     SliceLen,
-    /// 4: log2_layouts is above 6, or the layouts want more than 64 bits of a hash.
+    /// 4: the layouts want more than the 64 bits of a hash: `log2_slice_len` times 2^`log2_layouts`.
     LayoutBits,
-    /// 5: the slots are outside 1 to 134,217,728.
+    /// 5: `slots` is not from 1 to 134,217,728.
     Slots,
-    /// 6: the buckets are even in number, or more than 67,108,865.
+    /// 6: `buckets` is even, or above 67,108,865.
     Buckets,
-    /// 7: a bucket would span more than 4,096 slices.
+    /// 7: the buckets are too few for the slots: one would span more than 4,096 slices.
     SlicesPerBucket,
     /// 8: a weight is beyond ±2^32.
     Weights,
     /// 9: the begins do not fit the buckets and hashes, or there are more than 67,108,864 hashes.
     Begins,
-    /// 10: a bucket has more than 4,096 keys.
+    /// 10: a bucket has more than 4,096 keys. Hashes that are spread over all 64 bits have none.
     LargeBucket,
     /// 11: a hash stands in a bucket that is not its own.
     StrayHash,
@@ -46,7 +51,7 @@ pub enum Error {
     },
     /// 15: there are more holes than the buffer takes.
     HoleBuffer,
-    /// 16: the bucket size is not in 1 to min(2^log2_slice_len/8, 64).
+    /// 16: `bucket_size` is not from 1 to 64, or above an eighth of the slice length.
     BucketSize,
     /// 17: there are more than 67,108,864 keys.
     Keys,
@@ -77,63 +82,57 @@ impl Error {
         }
     }
 
-    /// Document 01's number.
+    /// The number that C and the project's documents know it by.
     pub fn number(&self) -> u64 {
-        match self {
-            Error::SeedBits => 1,
-            Error::Layouts => 2,
-            Error::SliceLen => 3,
-            Error::LayoutBits => 4,
-            Error::Slots => 5,
-            Error::Buckets => 6,
-            Error::SlicesPerBucket => 7,
-            Error::Weights => 8,
-            Error::Begins => 9,
-            Error::LargeBucket => 10,
-            Error::StrayHash => 11,
-            Error::Table => 12,
-            Error::Lengths => 13,
-            Error::NoSeed { .. } => 14,
-            Error::HoleBuffer => 15,
-            Error::BucketSize => 16,
-            Error::Keys => 17,
-        }
+        self.said().0
     }
 
-    /// Document 01's words for the number.
+    /// What was wrong, without the number.
     pub fn words(&self) -> &'static str {
-        WORDS[self.number() as usize - 1]
+        self.said().1
+    }
+
+    fn said(&self) -> (u64, &'static str) {
+        match self {
+            Error::SeedBits => (1, "seed_bits is not from 2 to 16"),
+            Error::Layouts => (2, "log2_layouts is not below seed_bits"),
+            Error::SliceLen => (3, "log2_slice_len is not from 3 to 16"),
+            Error::LayoutBits => {
+                (4, "log2_slice_len times 2^log2_layouts is above 64, or log2_layouts above 6")
+            }
+            Error::Slots => (5, "slots is not from 1 to 134,217,728"),
+            Error::Buckets => (6, "buckets is even, or above 67,108,865"),
+            Error::SlicesPerBucket => {
+                (7, "buckets are too few for the slots: one spans over 4,096 slices")
+            }
+            Error::Weights => (8, "a weight is beyond ±2^32"),
+            Error::Begins => (
+                9,
+                "begins are not buckets + 1 numbers from 0 up to the hashes' count, or that is above 67,108,864",
+            ),
+            Error::LargeBucket => (10, "a bucket has more than 4,096 keys"),
+            Error::StrayHash => (11, "a hash stands in a bucket that is not its own"),
+            Error::Table => (12, "the logarithm table is too short, or falls"),
+            Error::Lengths => {
+                (13, "seeds, bitmap, work or slots have not the length that is wanted")
+            }
+            Error::NoSeed { .. } => (14, "bumping is forbidden and no seed fits a bucket"),
+            Error::HoleBuffer => (15, "there are more holes than the buffer takes"),
+            Error::BucketSize => {
+                (16, "bucket_size is not from 1 to 64, or above an eighth of the slice length")
+            }
+            Error::Keys => (17, "there are more than 67,108,864 keys"),
+        }
     }
 }
 
-/// The words of the numbers from 1 on.
-const WORDS: [&str; 17] = [
-    "sb outside 2..16",
-    "ll ≥ sb",
-    "log2_slice_len outside 3..16",
-    "ll > 6, or log2_slice_len·2^ll > 64",
-    "m outside 1..134,217,728",
-    "B even or above 67,108,865 (0 is even)",
-    "p > 4,096",
-    "a weight beyond ±2^32",
-    "begins not B+1 long, not starting at 0, falling, or not ending at the hash count; or more than 67,108,864 hashes",
-    "a bucket of more than 4,096 keys",
-    "a hash outside its bucket",
-    "table too short, or falling within the entries needed",
-    "seeds not B long, bitmap not ceil(m/64) long, or work under W",
-    "bumping forbidden and the bucket taken gets 0",
-    "hole list longer than its buffer",
-    "bucket size not in 1 to min(2^log2_slice_len/8, 64), NaN included",
-    "k above 67,108,864",
-];
-
 impl fmt::Display for Error {
     fn fmt(&self, f: &mut fmt::Formatter<'_>) -> fmt::Result {
-        write!(f, "refused {}: {}", self.number(), self.words())?;
-        match self {
-            Error::NoSeed { bucket } => write!(f, " (bucket {bucket})"),
-            _ => Ok(()),
+        f.write_str(self.words())?;
+        if let Error::NoSeed { bucket } = self {
+            write!(f, ", bucket {bucket}")?;
         }
+        write!(f, " (number {})", self.number())
     }
 }
 

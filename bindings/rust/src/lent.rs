@@ -1,6 +1,7 @@
 //! The library's calls over memory that the caller lends, so that it can be used again.
 //!
-//! A call that is refused has written nothing, but for 14, which leaves seeds, bitmap and work zero.
+//! A call that is refused has written nothing, but for [`Error::NoSeed`], which leaves seeds, bitmap and
+//! work zero.
 //!
 //! ```
 //! use phastr::{Groups, Settings, lent};
@@ -41,7 +42,7 @@ pub struct Input<'a> {
     /// The weights of buckets of one to seven keys, each within ±2^32
     /// ([`default_weights`](crate::default_weights) has PHastR's).
     pub weights: [i64; 7],
-    /// Whether a bucket that no seed fits is bumped. If not, it ends the sweep with 14.
+    /// Whether a bucket that no seed fits is bumped. If not, it ends the sweep ([`Error::NoSeed`]).
     pub bump: bool,
     /// The hashes, bucket after bucket ([`Groups`](crate::Groups) brings them into that order).
     pub hashes: &'a [u64],
@@ -79,7 +80,13 @@ fn answer<T>(number: u64, value: T) -> Result<T, Error> {
     if number == 0 { Ok(value) } else { Err(Error::of(number, 0)) }
 }
 
-/// What a sweep wants lent if its largest bucket has so many keys. Refused: 1 to 7, and 10.
+/// What a sweep wants lent if its largest bucket has so many keys.
+///
+/// # Errors
+///
+/// Those of the settings: [`Error::SeedBits`], [`Error::Layouts`], [`Error::SliceLen`],
+/// [`Error::LayoutBits`], [`Error::Slots`], [`Error::Buckets`], [`Error::SlicesPerBucket`]; and
+/// [`Error::LargeBucket`] above 4,096 keys.
 pub fn sizes(settings: &Settings, largest: u64) -> Result<Sizes, Error> {
     let mut sizes = [0; 3];
     let number = raw::sizes(settings, largest, &mut sizes);
@@ -87,7 +94,13 @@ pub fn sizes(settings: &Settings, largest: u64) -> Result<Sizes, Error> {
     answer(number, Sizes { work, table, bitmap })
 }
 
-/// Sweeps a level. Refused: 1 to 14, the first that applies.
+/// Sweeps a level.
+///
+/// # Errors
+///
+/// Those of the settings as for [`sizes`], then [`Error::Weights`], [`Error::Begins`],
+/// [`Error::LargeBucket`], [`Error::StrayHash`], [`Error::Table`] and [`Error::Lengths`]: the first
+/// that applies, and nothing is written. [`Error::NoSeed`] where bumping is forbidden.
 pub fn sweep(input: &Input, output: Output) -> Result<Counts, Error> {
     let (mut counts, mut bucket) = ([0; 3], 0);
     match raw::sweep(input, output, &mut counts, &mut bucket) {
@@ -100,7 +113,12 @@ pub fn sweep(input: &Input, output: Output) -> Result<Counts, Error> {
 }
 
 /// Writes the unmarked ones of so many slots, ascending, to the front of `out` and answers how many
-/// there are. Refused: 5, 13 and 15.
+/// there are. A slot takes 32 bits there, to save room.
+///
+/// # Errors
+///
+/// [`Error::Slots`]; [`Error::Lengths`] where the bitmap has not a word for each 64 slots;
+/// [`Error::HoleBuffer`].
 pub fn holes(slots: u64, bitmap: &[u64], out: &mut [u32]) -> Result<usize, Error> {
     let mut count = 0;
     let number = raw::holes(slots, bitmap, out, &mut count);
@@ -108,15 +126,23 @@ pub fn holes(slots: u64, bitmap: &[u64], out: &mut [u32]) -> Result<usize, Error
 }
 
 /// The slot of a hash, or none where its bucket was bumped. A hash that was no key gets some slot
-/// too. Refused: 1 to 6, and 13 where there is not one seed to a bucket.
+/// too.
+///
+/// # Errors
+///
+/// Those of the settings as for [`sizes`], but not [`Error::SlicesPerBucket`]; [`Error::Lengths`]
+/// where there is not one seed to a bucket.
 pub fn lookup(settings: &Settings, seeds: &[u16], hash: u64) -> Result<Option<u64>, Error> {
     let mut slot = 0;
     let number = raw::lookup(settings, seeds, hash, &mut slot);
     answer(number, (slot != BUMPED).then_some(slot))
 }
 
-/// Writes the slot of each hash, or [`BUMPED`], to its place in `slots`. Refused: as [`lookup`], and
-/// 13 also where there are not as many slots as hashes.
+/// Writes the slot of each hash, or [`BUMPED`], to its place in `slots`.
+///
+/// # Errors
+///
+/// Those of [`lookup`], and [`Error::Lengths`] also where there are not as many slots as hashes.
 pub fn lookup_all(
     settings: &Settings,
     seeds: &[u16],
@@ -126,7 +152,13 @@ pub fn lookup_all(
     answer(raw::positions(settings, seeds, hashes, slots), ())
 }
 
-/// How many buckets so many keys get at an expected bucket size. Refused: 3, 16 and 17.
+/// How many buckets so many keys get at an expected bucket size.
+///
+/// # Errors
+///
+/// [`Error::SliceLen`], [`Error::BucketSize`] and [`Error::Keys`].
+///
+/// # Examples
 ///
 /// ```
 /// assert_eq!(phastr::lent::bucket_count(10, 1000, 4.25), Ok(235));

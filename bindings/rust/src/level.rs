@@ -17,7 +17,15 @@ pub struct Level {
 }
 
 impl Level {
-    /// Sweeps grouped hashes. Refused: 1 to 11, and 14 where bumping is forbidden.
+    /// Sweeps grouped hashes.
+    ///
+    /// # Errors
+    ///
+    /// Those of the settings as for [`lent::sizes`], then [`Error::Weights`], and of the groups
+    /// [`Error::Begins`], [`Error::LargeBucket`] and [`Error::StrayHash`]; [`Error::NoSeed`] where
+    /// bumping is forbidden.
+    ///
+    /// # Examples
     ///
     /// ```
     /// use phastr::{Groups, Level, Settings, default_weights};
@@ -63,10 +71,27 @@ impl Level {
         slots.into_iter().map(|slot| (slot != BUMPED).then_some(slot)).collect()
     }
 
-    /// Writes the slot of each hash, or [`BUMPED`], to its place in `slots`. Refused: 13 where there
-    /// are not as many slots as hashes.
+    /// Writes the slot of each hash, or [`BUMPED`], to its place in `slots`.
+    ///
+    /// # Errors
+    ///
+    /// [`Error::Lengths`] where there are not as many slots as hashes.
     pub fn lookup_into(&self, hashes: &[u64], slots: &mut [u64]) -> Result<(), Error> {
         lent::lookup_all(&self.settings, &self.seeds, hashes, slots)
+    }
+
+    /// Which of the hashes were bumped, by their place among those given: the keys of the next level.
+    /// Hash these keys anew there, with another salt; under the same hashes they fall together again.
+    ///
+    /// ```
+    /// let hashes = vec![1 << 63, 0, 1 << 62, 0];
+    /// let level = phastr::Builder::new().bucket_size(1.0).sweep(hashes.clone())?;
+    /// assert_eq!(level.bumped(&hashes), [1, 3]); // the same hash twice fits nowhere
+    /// # Ok::<(), phastr::Error>(())
+    /// ```
+    pub fn bumped(&self, hashes: &[u64]) -> Vec<usize> {
+        let slots = self.lookup_all(hashes);
+        (0..hashes.len()).filter(|&i| slots[i].is_none()).collect()
     }
 
     /// The slots that no key took, ascending.
@@ -116,10 +141,10 @@ impl Level {
 pub struct Holes(std::vec::IntoIter<u32>);
 
 impl Iterator for Holes {
-    type Item = u32;
+    type Item = u64;
 
-    fn next(&mut self) -> Option<u32> {
-        self.0.next()
+    fn next(&mut self) -> Option<u64> {
+        self.0.next().map(u64::from)
     }
 
     fn size_hint(&self) -> (usize, Option<usize>) {
@@ -128,8 +153,8 @@ impl Iterator for Holes {
 }
 
 impl DoubleEndedIterator for Holes {
-    fn next_back(&mut self) -> Option<u32> {
-        self.0.next_back()
+    fn next_back(&mut self) -> Option<u64> {
+        self.0.next_back().map(u64::from)
     }
 }
 
