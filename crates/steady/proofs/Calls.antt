@@ -10,25 +10,15 @@ use lib.ListN.{getD}
 use Rattle.rules.specs.declared.Counts.{Counts}
 use Rattle.rules.specs.declared.SweepRecord.{SweepRecord}
 use Rattle.rules.specs.Order.{Input, byLowBits}
-use Rattle.rules.specs.Sweep.{finalSeeds}
 use Rattle.rules.specs.Holes.{holesOf}
-use Rattle.rules.specs.Numbers.{Lent, lentOf}
-use Rattle.rules.specs.Answers.{unless, ranAnswer, saidSweep, countsOf, sweepTurns, stopsAt, sweepNumber, sweepAnswer, sweepSeeds, sweepBitmap, sweepWork}
+use Rattle.rules.specs.Numbers.{lentOf}
+use Rattle.rules.specs.Answers.{unless, ranAnswer, saidSweep, stopsAt, sweepNumber, sweepAnswer, sweepSeeds, sweepBitmap, sweepWork}
 use Rattle.rules.proofs.SaidLaws.{said-sweep}
 use Rattle.sweep.specs.Performing.{Left}
 use Rattle.steady.specs.Alike.{DifferIn, Reordered}
 use Rattle.steady.specs.Steady.{isAnswer, isRun, accepted, ran, SameLevel, EarlyStay, OrderFree, RefusedAlike}
 use Rattle.steady.proofs.EarlyPages.{differ-below, early-done}
 use Rattle.steady.proofs.Reordering.{reordered, reordered-accepted}
-
--- the four promises of a call, put together
-pub leaves : {i : Input} {bump : Bool} {seeds bitmap work seeds' bitmap' work' : List ℕ} {r : SweepRecord}
-    → (saidSweep r ≡ sweepAnswer byLowBits bump i (lentOf seeds bitmap work))
-    × ((seeds' ≡ sweepSeeds byLowBits bump i (lentOf seeds bitmap work) seeds)
-    × ((bitmap' ≡ sweepBitmap byLowBits bump i (lentOf seeds bitmap work) bitmap)
-    × (work' ≡ sweepWork i (lentOf seeds bitmap work) work)))
-    → Left i bump seeds bitmap work r seeds' bitmap' work'
-leaves e = record { answer = e .0; given = e .1 .0; marked = e .1 .1 .0; worked = e .1 .1 .1 }
 
 answer-passed : (n : ℕ) (o : Option ℕ) (c : Counts) → T (isAnswer (unless n (ranAnswer o c))) → (n ≡ 0) × (o ≡ none)
 unfolding isAnswer unless ranAnswer
@@ -44,15 +34,11 @@ run-passed (suc n) o c t = absurd t
 module _ {i : Input} {bump : Bool} {seeds bitmap work seeds' bitmap' work' : List ℕ} {r : SweepRecord} (l : Left i bump seeds bitmap work r seeds' bitmap' work') where
   accepted-passed : T (accepted r) → (sweepNumber i (lentOf seeds bitmap work) ≡ 0) × (stopsAt byLowBits bump i ≡ none)
   unfolding accepted sweepAnswer
-  accepted-passed t =
-      answer-passed (sweepNumber i (lentOf seeds bitmap work)) (stopsAt byLowBits bump i) (countsOf i (finalSeeds i (sweepTurns byLowBits i)))
-      (subst (λ s. T (isAnswer s)) (l .answer) t)
+  accepted-passed t = answer-passed _ _ _ (subst (λ s. T (isAnswer s)) (l .answer) t)
 
   ran-passed : T (ran r) → sweepNumber i (lentOf seeds bitmap work) ≡ 0
   unfolding ran sweepAnswer
-  ran-passed t =
-      run-passed (sweepNumber i (lentOf seeds bitmap work)) (stopsAt byLowBits bump i) (countsOf i (finalSeeds i (sweepTurns byLowBits i)))
-      (subst (λ s. T (isRun s)) (l .answer) t)
+  ran-passed t = run-passed _ _ _ (subst (λ s. T (isRun s)) (l .answer) t)
 
 -- two calls, each with buffers of its own
 module _ {i j : Input} {bump : Bool} {seeds bitmap work seeds' bitmap' work' : List ℕ} {r : SweepRecord} (l : Left i bump seeds bitmap work r seeds' bitmap' work')
@@ -79,3 +65,24 @@ module _ {i j : Input} {bump : Bool} {seeds bitmap work seeds' bitmap' work' : L
   pub refused-alike : RefusedAlike i j r r2 (lentOf seeds bitmap work) (lentOf seeds2 bitmap2 work2)
   refused-alike R e = said-sweep r r2
       (l .answer ∙ reordered byLowBits bump i j (lentOf seeds bitmap work) R .said-same ∙ ap (sweepAnswer byLowBits bump j) e ∙ sym (k .answer))
+
+-- what a call of sweep promises, one after another
+abbrev Promised : (i : Input) (bump : Bool) (seeds bitmap work : List ℕ) (r : SweepRecord) (seeds' bitmap' work' : List ℕ) → Type 0
+Promised i bump seeds bitmap work r seeds' bitmap' work' =
+    (saidSweep r ≡ sweepAnswer byLowBits bump i (lentOf seeds bitmap work))
+    × ((seeds' ≡ sweepSeeds byLowBits bump i (lentOf seeds bitmap work) seeds)
+    × ((bitmap' ≡ sweepBitmap byLowBits bump i (lentOf seeds bitmap work) bitmap)
+    × (work' ≡ sweepWork i (lentOf seeds bitmap work) work)))
+
+-- so two calls leave this, with both theorems
+pub both-leave : {i j : Input} {bump : Bool} {seeds bitmap work seeds' bitmap' work' seeds2 bitmap2 work2 seeds2' bitmap2' work2' : List ℕ} {r r2 : SweepRecord}
+    → Promised i bump seeds bitmap work r seeds' bitmap' work' → Promised j bump seeds2 bitmap2 work2 r2 seeds2' bitmap2' work2'
+    → Left i bump seeds bitmap work r seeds' bitmap' work'
+    × (Left j bump seeds2 bitmap2 work2 r2 seeds2' bitmap2' work2'
+    × (EarlyStay i j r r2 seeds' seeds2'
+    × (OrderFree i j r r2 seeds' seeds2' bitmap' bitmap2'
+    × RefusedAlike i j r r2 (lentOf seeds bitmap work) (lentOf seeds2 bitmap2 work2))))
+both-leave {i} {j} {bump} {seeds} {bitmap} {work} {seeds'} {bitmap'} {work'} {seeds2} {bitmap2} {work2} {seeds2'} {bitmap2'} {work2'} {r} {r2} e f =
+    let l : Left i bump seeds bitmap work r seeds' bitmap' work' = record { answer = e .0; given = e .1 .0; marked = e .1 .1 .0; worked = e .1 .1 .1 } in
+    let k : Left j bump seeds2 bitmap2 work2 r2 seeds2' bitmap2' work2' = record { answer = f .0; given = f .1 .0; marked = f .1 .1 .0; worked = f .1 .1 .1 } in
+    (l, (k, (early-stay l k, (order-free l k, refused-alike l k))))

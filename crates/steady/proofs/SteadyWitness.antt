@@ -1,5 +1,5 @@
--- Neither theorem on what a change of the keys leaves as it was is empty, and 255 cannot be less. Two slots and 257 buckets, a key in bucket 0: two keys
--- more in bucket 256 leave its seed as it was, in bucket 255 they take its slot away. The listing of document 01 with bucket 0's keys exchanged. Assumes nothing.
+-- Neither theorem is empty, and 255 cannot be less. Three slots and 257 buckets, a key in bucket 0 and one in bucket 1: two keys more in bucket 256 leave
+-- bucket 0 its seed and take bucket 1's slot away. The listing of document 01 with bucket 0's keys exchanged. Assumes nothing.
 use mathlib.Core.Path.{_≡_, refl, sym, ap, _∙_}
 use mathlib.Core.Logic.{inl, inr, _≢_}
 use mathlib.Core.Bool.{true, false, _||_}
@@ -30,19 +30,26 @@ same-eq (x ∷ xs) (y ∷ ys) t =
 
 -- ---- early pages
 
--- 257 buckets over two slots: a key in bucket 0, and `late` in bucket b
-unfoldable pub pages : (b : ℕ) → (late : List ℕ) → Input
-pages b late = record {
-  settings = record { m = 2; «log2_slice_len» = 3; ll = 0; sb = 4; buckets = 257 };
+-- the least hash of bucket b of 257, and so many more
+unfoldable pub hashIn : (b more : ℕ) → ℕ
+hashIn b more = b * 2 ^ 64 / 257 + 1 + more
+
+-- 257 buckets over three slots: a key in bucket 0, one in bucket 1, and `late` in bucket 256
+unfoldable pub pages : (late : List ℕ) → Input
+pages late = record {
+  settings = record { m = 3; «log2_slice_len» = 3; ll = 0; sb = 4; buckets = 257 };
   weights = Int.pos 0 ∷ Int.pos (2 ^ 20) ∷ replicate 5 (Int.pos 0);
-  hashes = 0 ∷ late;
-  begins = 0 ∷ replicate b 1 ++ replicate (257 - b) (1 + length late);
+  hashes = 0 ∷ hashIn 1 0 ∷ late;
+  begins = 0 ∷ 1 ∷ replicate 255 2 ++ (2 + length late) ∷ [];
   table = table;
 }
 
--- two hashes of bucket b, on different slots under every seed
-unfoldable pub twoOf : (b : ℕ) → List ℕ
-twoOf b = (b * 2 ^ 64 / 257 + 1) ∷ (b * 2 ^ 64 / 257 + 2) ∷ []
+-- bucket 256 empty, and with two keys
+unfoldable pub blank : Input
+blank = pages []
+
+unfoldable pub scanned : Input
+scanned = pages (hashIn 256 0 ∷ hashIn 256 1 ∷ [])
 
 -- the same keys in each bucket but b, by one test
 differ-by : (b : ℕ) → (one other : Input) → T (every (λ (c : ℕ). same (keysOf one c) (keysOf other c) || eqb c b) (below (one .settings .buckets))) → (c : ℕ) → c < one .settings .buckets → c ≢ b
@@ -50,50 +57,36 @@ differ-by : (b : ℕ) → (one other : Input) → T (every (λ (c : ℕ). same (
 differ-by b one other t c h ne = elim (or-cases (same (keysOf one c) (keysOf other c)) (eqb c b) (every-below (λ (d : ℕ). same (keysOf one d) (keysOf other d) || eqb d b) (one .settings .buckets) t c h))
     [ inl s ↦ same-eq (keysOf one c) (keysOf other c) s | inr e ↦ absurd (ne (eqb→eq c b e)) ]
 
-late-differs : DifferIn 256 (pages 256 []) (pages 256 (twoOf 256))
-unfolding pages twoOf table runs
-late-differs = record { settings-same = refl; weights-same = refl; table-same = refl; keys-same = differ-by 256 (pages 256 []) (pages 256 (twoOf 256)) tt }
+pages-differ : DifferIn 256 blank scanned
+unfolding blank scanned pages hashIn table runs
+pages-differ = record { settings-same = refl; weights-same = refl; table-same = refl; keys-same = differ-by 256 blank scanned tt }
 
-blank-passes : sweepNumber (pages 256 []) (lentFor (pages 256 [])) ≡ 0
-unfolding pages table runs
-blank-passes = refl
+pages-pass : (sweepNumber blank (lentFor blank) ≡ 0) × (sweepNumber scanned (lentFor scanned) ≡ 0)
+unfolding blank scanned pages hashIn table runs
+pages-pass = (refl, refl)
 
-late-passes : sweepNumber (pages 256 (twoOf 256)) (lentFor (pages 256 (twoOf 256))) ≡ 0
-unfolding pages twoOf table runs
-late-passes = refl
-
--- the seed of bucket 0 is the same in both
+-- the seed of bucket 0 is the same in both, as the theorem says
 pub early-here : (seeds seeds' : List ℕ)
-    → getD (sweepSeeds byLowBits true (pages 256 []) (lentFor (pages 256 [])) seeds) 0 0 ≡ getD (sweepSeeds byLowBits true (pages 256 (twoOf 256)) (lentFor (pages 256 (twoOf 256))) seeds') 0 0
+    → getD (sweepSeeds byLowBits true blank (lentFor blank) seeds) 0 0 ≡ getD (sweepSeeds byLowBits true scanned (lentFor scanned) seeds') 0 0
 early-here seeds seeds' =
-    early-pages byLowBits (pages 256 []) (pages 256 (twoOf 256)) (lentFor (pages 256 [])) (lentFor (pages 256 (twoOf 256))) 256 late-differs blank-passes late-passes seeds seeds' 0 (omega arith)
+    early-pages byLowBits blank scanned (lentFor blank) (lentFor scanned) 256 pages-differ (pages-pass .0) (pages-pass .1) seeds seeds' 0 (omega arith)
 
--- it is 2
-early-two : getD (sweepSeeds byLowBits true (pages 256 (twoOf 256)) (lentFor (pages 256 (twoOf 256))) []) 0 0 ≡ 2
-unfolding pages twoOf table runs
+-- it is no bumped bucket's: bucket 0 has the seed 2
+early-two : getD (sweepSeeds byLowBits true scanned (lentFor scanned) []) 0 0 ≡ 2
+unfolding scanned pages hashIn table runs
 early-two = refl
 
--- ---- one bucket nearer it is not so
-
-near-differs : DifferIn 255 (pages 255 []) (pages 255 (twoOf 255))
-unfolding pages twoOf table runs
-near-differs = record { settings-same = refl; weights-same = refl; table-same = refl; keys-same = differ-by 255 (pages 255 []) (pages 255 (twoOf 255)) tt }
-
-near-passes : (sweepNumber (pages 255 []) (lentFor (pages 255 [])) ≡ 0) × (sweepNumber (pages 255 (twoOf 255)) (lentFor (pages 255 (twoOf 255))) ≡ 0)
-unfolding pages twoOf table runs
-near-passes = (refl, refl)
-
-near-moves : (getD (sweepSeeds byLowBits true (pages 255 []) (lentFor (pages 255 [])) []) 0 0 ≡ 2)
-    × (getD (sweepSeeds byLowBits true (pages 255 (twoOf 255)) (lentFor (pages 255 (twoOf 255))) []) 0 0 ≡ 0)
-unfolding pages twoOf table runs
-near-moves = (refl, refl)
+-- bucket 1, which is b - 255, has another: the two keys took its slot
+next-moves : (getD (sweepSeeds byLowBits true blank (lentFor blank) []) 1 0 ≡ 1) × (getD (sweepSeeds byLowBits true scanned (lentFor scanned) []) 1 0 ≡ 0)
+unfolding blank scanned pages hashIn table runs
+next-moves = (refl, refl)
 
 -- so the bound is exact: with one bucket less the theorem is false
 pub early-exact : ((i j : Input) (lent lent' : Lent) (b : ℕ) → DifferIn b i j → sweepNumber i lent ≡ 0 → sweepNumber j lent' ≡ 0
     → (x : ℕ) → x + 254 < b → getD (sweepSeeds byLowBits true i lent []) x 0 ≡ getD (sweepSeeds byLowBits true j lent' []) x 0) → ⊥
 early-exact h =
-    let e = h (pages 255 []) (pages 255 (twoOf 255)) (lentFor (pages 255 [])) (lentFor (pages 255 (twoOf 255))) 255 near-differs (near-passes .0) (near-passes .1) 0 (omega arith) in
-    let z : _≡_ {A = ℕ} 2 0 = sym (near-moves .0) ∙ e ∙ near-moves .1 in
+    let e = h blank scanned (lentFor blank) (lentFor scanned) 256 pages-differ (pages-pass .0) (pages-pass .1) 1 (omega arith) in
+    let z : _≡_ {A = ℕ} 1 0 = sym (next-moves .0) ∙ e ∙ next-moves .1 in
     omega arith
 
 -- ---- reordering

@@ -1,6 +1,6 @@
 -- Each call leaves what its contract says; the theorems follow from that.
 use borrow.Author.Needs.{needs}
-use Rattle.steady.proofs.Calls.{leaves, early-stay, order-free, refused-alike}
+use Rattle.steady.proofs.Calls.{both-leave}
 use Rattle.steady.proofs.sweep_both.Statement.{statement}
 use Rattle.steady.proofs.sweep_both.Tie as tie
 
@@ -29,10 +29,8 @@ same-length-6 : tie.Need-same-length-6
 same-length-6 c = search needs
 
 returns : tie.Need-returns
-returns c =
-    let l = leaves (c .before .before .before .before .before .before .before .before .before .before .before .before .before .before .before .before .sweep .ensures) in
-    let k = leaves (c .before .before .before .before .before .before .sweep2 .ensures) in
-    (l, (k, (early-stay l k, (order-free l k, refused-alike l k))))
+returns c = both-leave (c .before .before .before .before .before .before .before .before .before .before .before .before .before .before .before .before .sweep .ensures)
+    (c .before .before .before .before .before .before .sweep2 .ensures)
 
 pub sweep-both-spec : {M : Type 1} → statement M
 sweep-both-spec =
