@@ -103,11 +103,11 @@ entry-small (suc c) h =
 pub record Filled (d : ℕ) (table : List ℕ) : Type 0 where
   pub done : (i : ℕ) → i < d → getD table i 0 ≡ logEntry i
 
-pub filled-start : (table : List ℕ) → 1 ≤ length table → Filled 1 (set table 0 0)
-filled-start table h = record { done = by }
+pub filled-start : (table : List ℕ) (t : ℕ) → 1 ≤ length table → t ≡ 0 → Filled 1 (set table 0 t)
+filled-start table t h e = record { done = by }
   where
-    by : (i : ℕ) → i < 1 → getD (set table 0 0) i 0 ≡ logEntry i
-    by zero lt = getD-set-same table 0 0 0 h ∙ sym log-zero
+    by : (i : ℕ) → i < 1 → getD (set table 0 t) i 0 ≡ logEntry i
+    by zero lt = getD-set-same table 0 t 0 h ∙ e ∙ sym log-zero
     by (suc i) lt = absurd (omega arith)
 
 pub filled-put : (d t : ℕ) (table : List ℕ) → d < length table → t ≡ logEntry d → Filled d table → Filled (d + 1) (set table d t)
