@@ -84,7 +84,8 @@ enum phastr_number {
     PHASTR_NO_SEED = 14,
     PHASTR_HOLE_BUFFER = 15,
     PHASTR_BUCKET_SIZE = 16,
-    PHASTR_KEYS = 17
+    PHASTR_KEYS = 17,
+    PHASTR_TABLE_LENGTH = 21
 };
 
 /* A number in words, for people. docs/RULES.md says what to do about it. */
@@ -127,6 +128,8 @@ static inline const char *phastr_number_words(uint64_t number) {
         return "the bucket size is no number from 1 to 64, or above an eighth of 2^log2_slice_len";
     case PHASTR_KEYS:
         return "there are more than 67,108,864 keys";
+    case PHASTR_TABLE_LENGTH:
+        return "a table has no entries, or more than 131,072";
     default:
         return "no number of this library";
     }
@@ -135,8 +138,9 @@ static inline const char *phastr_number_words(uint64_t number) {
 /* The slot of a hash whose bucket has seed 0: it was bumped, or is empty. */
 #define PHASTR_BUMPED UINT64_MAX
 
-/* The entries of the house table. */
+/* The entries of the house table, and of the longest table that phastr_log_table fills. */
 #define PHASTR_HOUSE_ENTRIES 2048
+#define PHASTR_LOG_ENTRIES 131072
 
 /*
  * How many buckets so many keys get at an expected bucket size (PHastR's default 4.25): keys / size,
@@ -158,9 +162,17 @@ uint64_t phastr_sizes(uint64_t m, uint64_t log2_slice_len, uint64_t ll, uint64_t
 /*
  * Writes the house table of logarithms: entry d is 2^24 * log2(d), rounded to nearest, and entry 0
  * is 0. It is long enough for slices of up to 1,024 slots where p (see 7) is at most 928; where
- * phastr_sizes asks for more, lend a longer table that goes on by the same rule.
+ * phastr_sizes asks for more, lend what phastr_log_table fills.
  */
 void phastr_house_table(uint32_t table[PHASTR_HOUSE_ENTRIES]);
+
+/*
+ * Fills a table of logarithms of 1 to PHASTR_LOG_ENTRIES entries by the same rule, in whole numbers;
+ * it begins with the house table, as far as it goes. No settings ask for more than 69,728 entries.
+ *
+ * Answers 0, or 21 where table_len is 0 or above PHASTR_LOG_ENTRIES.
+ */
+uint64_t phastr_log_table(uint32_t *table, size_t table_len);
 
 /*
  * Sweeps a level: finds a seed for each bucket.
@@ -171,7 +183,7 @@ void phastr_house_table(uint32_t table[PHASTR_HOUSE_ENTRIES]);
  *   bump     whether a bucket that no seed fits is bumped. If not, it ends the sweep with 14.
  *   hashes   bucket after bucket, in any order within one. Sorted hashes stand so.
  *   begins   B + 1 numbers: bucket b's hashes are those from begins[b] to before begins[b + 1].
- *   table    of logarithms (phastr_house_table, phastr_sizes).
+ *   table    of logarithms (phastr_house_table, phastr_log_table), as long as phastr_sizes says.
  *   seeds    B of them; bitmap: ceil(m/64) words; work: at least W words (phastr_sizes). What they
  *            hold before does not matter.
  *

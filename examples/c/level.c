@@ -1,5 +1,6 @@
 /*
- * Two levels by way of the library: document 01's listing, and some thousand generated keys.
+ * Levels by way of the library: document 01's listing, and some thousand generated keys in slices of
+ * 1,024 slots and in longer ones.
  *
  *   folder=$(tools/library)
  *   cc -std=c99 -Wall -Wextra -Werror -Iinclude examples/c/level.c "$folder/libphastr.a" -o level
@@ -11,14 +12,9 @@
 
 #include "phastr.h"
 
-/* The settings of a level, as the calls take them. */
-struct settings {
-    uint64_t m, log2_slice_len, ll, sb, buckets;
-};
-
 /* All that a sweep reads and writes. */
 struct level {
-    struct settings s;
+    struct phastr_settings s;
     uint64_t *hashes;
     uint32_t *begins;
     uint64_t keys, largest;
@@ -29,7 +25,13 @@ struct level {
 };
 
 static void fail(const char *what, uint64_t number) {
-    fprintf(stderr, "%s: refused %" PRIu64 "\n", what, number);
+    fprintf(stderr, "%s: %s (number %" PRIu64 ")\n", what, phastr_number_words(number), number);
+    exit(1);
+}
+
+/* What a caller would never see of a proved library. */
+static void wrong(const char *what, uint64_t value) {
+    fprintf(stderr, "%s: %" PRIu64 "\n", what, value);
     exit(1);
 }
 
@@ -70,20 +72,22 @@ static void group(struct level *level) {
 
 /* Finds out what the sweep wants lent, lends it, and sweeps. */
 static void sweep(struct level *level, const int64_t weights[7]) {
-    const struct settings s = level->s;
+    const struct phastr_settings s = level->s;
     uint64_t sizes[3] = {0}, bucket = 0, number;
-    number = phastr_sizes(s.m, s.log2_slice_len, s.ll, s.sb, s.buckets, level->largest, sizes);
+    number = phastr_sizes(PHASTR_SETTINGS(s), level->largest, sizes);
     if (number != PHASTR_OK)
         fail("sizes", number);
     level->bitmap_words = sizes[2];
     level->seeds = room(s.buckets, sizeof *level->seeds);
     level->bitmap = room(sizes[2], sizeof *level->bitmap);
     uint64_t *work = room(sizes[0], sizeof *work);
-    uint32_t *table = room(PHASTR_HOUSE_ENTRIES, sizeof *table);
-    phastr_house_table(table);
-    number = phastr_sweep(s.m, s.log2_slice_len, s.ll, s.sb, s.buckets, weights, true, level->hashes,
+    uint32_t *table = room(sizes[1], sizeof *table);
+    number = phastr_log_table(table, (size_t)sizes[1]);
+    if (number != PHASTR_OK)
+        fail("table", number);
+    number = phastr_sweep(PHASTR_SETTINGS(s), weights, true, level->hashes,
                           (size_t)level->keys, level->begins, (size_t)s.buckets + 1, table,
-                          PHASTR_HOUSE_ENTRIES, level->seeds, (size_t)s.buckets, level->bitmap,
+                          (size_t)sizes[1], level->seeds, (size_t)s.buckets, level->bitmap,
                           (size_t)sizes[2], work, (size_t)sizes[0], level->counts, &bucket);
     if (number != PHASTR_OK)
         fail("sweep", number);
@@ -103,9 +107,9 @@ static uint32_t *holes(const struct level *level, uint64_t *count) {
 }
 
 static uint64_t lookup(const struct level *level, uint64_t hash) {
-    const struct settings s = level->s;
+    const struct phastr_settings s = level->s;
     uint64_t slot = 0, number;
-    number = phastr_lookup(s.m, s.log2_slice_len, s.ll, s.sb, s.buckets, level->seeds,
+    number = phastr_lookup(PHASTR_SETTINGS(s), level->seeds,
                            (size_t)s.buckets, hash, &slot);
     if (number != PHASTR_OK)
         fail("lookup", number);
@@ -158,11 +162,11 @@ static uint64_t spread(uint64_t i) {
 /* Looks each key up, together and by itself. Answers how many were bumped; each other must have a
  * marked slot of its own. */
 static uint64_t look_up_all(const struct level *level) {
-    const struct settings s = level->s;
+    const struct phastr_settings s = level->s;
     uint64_t *slots = room(level->keys, sizeof *slots), bumped = 0;
     unsigned char *seen = room(s.m, 1);
     uint64_t number =
-        phastr_positions(s.m, s.log2_slice_len, s.ll, s.sb, s.buckets, level->seeds,
+        phastr_positions(PHASTR_SETTINGS(s), level->seeds,
                          (size_t)s.buckets, level->hashes, (size_t)level->keys, slots,
                          (size_t)level->keys);
     if (number != PHASTR_OK)
@@ -170,13 +174,13 @@ static uint64_t look_up_all(const struct level *level) {
     for (uint64_t i = 0; i < level->keys; i++) {
         uint64_t slot = lookup(level, level->hashes[i]);
         if (slot != slots[i])
-            fail("a key with two answers", slot);
+            wrong("a key with two answers", slot);
         if (slot == PHASTR_BUMPED) {
             bumped++;
             continue;
         }
         if (slot >= s.m || seen[slot] || !(level->bitmap[slot / 64] >> (slot % 64) & 1))
-            fail("a slot that is not the key's own", slot);
+            wrong("a slot that is not the key's own", slot);
         seen[slot] = 1;
     }
     free(seen);
@@ -184,11 +188,12 @@ static uint64_t look_up_all(const struct level *level) {
     return bumped;
 }
 
-/* Some thousand keys at PHastR's defaults: as many slots as keys, buckets of 4.25 keys. */
-static void generated(uint64_t keys) {
+/* Some thousand keys: as many slots as keys, and but for the slices PHastR's defaults. */
+static void generated(uint64_t keys, uint64_t log2_slice_len) {
     static const int64_t weights[7] = {-52000, 53315, 105861, 138629, 156944, 175176, 186591};
-    struct level level = {.s = {keys, 10, 2, 8, 0}, .keys = keys};
-    uint64_t number = phastr_bucket_count(10, keys, 4.25, &level.s.buckets), count = 0;
+    struct level level = {.s = {keys, log2_slice_len, 2, 8, 0}, .keys = keys};
+    uint64_t number = phastr_bucket_count(log2_slice_len, keys, 4.25, &level.s.buckets);
+    uint64_t count = 0;
     if (number != PHASTR_OK)
         fail("bucket count", number);
     level.hashes = room(keys, sizeof *level.hashes);
@@ -199,7 +204,7 @@ static void generated(uint64_t keys) {
     free(holes(&level, &count));
     uint64_t bumped = look_up_all(&level);
     if (bumped != level.counts[1] || level.counts[0] + bumped != keys || count != bumped)
-        fail("counts", bumped);
+        wrong("bumped keys miscounted", bumped);
     printf("%" PRIu64 " keys in %" PRIu64 " buckets: %" PRIu64 " placed, %" PRIu64
            " bumped, %" PRIu64 " buckets of seed 0, %" PRIu64 " holes\n",
            keys, level.s.buckets, level.counts[0], bumped, level.counts[2], count);
@@ -210,16 +215,36 @@ static void generated(uint64_t keys) {
 static void refused(void) {
     uint16_t seeds[2] = {1, 1};
     uint64_t slot = 77, number = phastr_lookup(7, 3, 0, 4, 3, seeds, 2, 0, &slot);
-    printf("refused %" PRIu64 ", slot kept at %" PRIu64 "\n", number, slot);
+    printf("refused %" PRIu64 ", %s: slot kept at %" PRIu64 "\n", number, phastr_number_words(number), slot);
     uint64_t count = 77;
     number = phastr_bucket_count(10, 100, 64.5, &count);
     printf("refused %" PRIu64 ", count kept at %" PRIu64 "\n", number, count);
+    uint32_t entry = 77;
+    number = phastr_log_table(&entry, 0);
+    printf("refused %" PRIu64 ", entry kept at %" PRIu32 "\n", number, entry);
+}
+
+/* The house table is the front of a longer one. */
+static void tables(void) {
+    uint32_t house[PHASTR_HOUSE_ENTRIES];
+    uint32_t *table = room(PHASTR_LOG_ENTRIES, sizeof *table);
+    uint64_t number = phastr_log_table(table, PHASTR_LOG_ENTRIES);
+    if (number != PHASTR_OK)
+        fail("table", number);
+    phastr_house_table(house);
+    for (size_t d = 0; d < PHASTR_HOUSE_ENTRIES; d++)
+        if (table[d] != house[d])
+            wrong("another house table at entry", d);
+    printf("entries %" PRIu32 " %" PRIu32 " %" PRIu32 "\n", table[3], table[2047], table[131071]);
+    free(table);
 }
 
 int main(void) {
     listing();
-    generated(1);
-    generated(5000);
+    generated(1, 10);
+    generated(5000, 10);
+    generated(40000, 14);
+    tables();
     refused();
     return 0;
 }

@@ -55,6 +55,8 @@ pub enum Error {
     BucketSize,
     /// 17: there are more than 67,108,864 keys.
     Keys,
+    /// 21: a table to be filled has no entries, or more than 131,072.
+    TableLength,
 }
 
 impl Error {
@@ -78,6 +80,7 @@ impl Error {
             15 => Error::HoleBuffer,
             16 => Error::BucketSize,
             17 => Error::Keys,
+            21 => Error::TableLength,
             _ => unreachable!("the library answered {number}, which none of its calls does"),
         }
     }
@@ -122,6 +125,7 @@ impl Error {
                 (16, "bucket_size is not from 1 to 64, or above an eighth of the slice length")
             }
             Error::Keys => (17, "there are more than 67,108,864 keys"),
+            Error::TableLength => (21, "a table has no entries, or more than 131,072"),
         }
     }
 }

@@ -55,7 +55,7 @@ pub use error::Error;
 pub use groups::Groups;
 pub use level::{Holes, Level};
 pub use settings::{Settings, default_weights};
-pub use table::{HOUSE_ENTRIES, house_table, log_table};
+pub use table::{HOUSE_ENTRIES, LOG_ENTRIES, house_table, log_table};
 
 /// What a slot is where a key's bucket was bumped, in the calls that fill a slice of slots.
 pub const BUMPED: u64 = u64::MAX;
