@@ -211,17 +211,24 @@ static void generated(uint64_t keys, uint64_t log2_slice_len) {
     let_go(&level);
 }
 
+static void print_number(uint64_t number) {
+    printf("refused %" PRIu64 " (%s), ", number, phastr_number_words(number));
+}
+
 /* Numbers and slices that are refused: nothing is written. */
 static void refused(void) {
     uint16_t seeds[2] = {1, 1};
     uint64_t slot = 77, number = phastr_lookup(7, 3, 0, 4, 3, seeds, 2, 0, &slot);
-    printf("refused %" PRIu64 ", %s: slot kept at %" PRIu64 "\n", number, phastr_number_words(number), slot);
+    print_number(number);
+    printf("slot kept at %" PRIu64 "\n", slot);
     uint64_t count = 77;
     number = phastr_bucket_count(10, 100, 64.5, &count);
-    printf("refused %" PRIu64 ", count kept at %" PRIu64 "\n", number, count);
+    print_number(number);
+    printf("count kept at %" PRIu64 "\n", count);
     uint32_t entry = 77;
     number = phastr_log_table(&entry, 0);
-    printf("refused %" PRIu64 ", entry kept at %" PRIu32 "\n", number, entry);
+    print_number(number);
+    printf("entry kept at %" PRIu32 "\n", entry);
 }
 
 /* The house table is the front of a longer one. */
