@@ -29,7 +29,7 @@ returns-2 c = rw (c .before .before .before .before .matched .given .1, c .befor
 
 returns-3 : tie.Need-returns-3
 unfolding saidMatched namedBy numberTold bucketTold
-returns-3 c = rw (c .before .before .before .matched .given .1, c .enum-told-2 .given .1) (refl, refl)
+returns-3 c = rw (c .before .before .before .matched .given .1, c .enum-told2 .given .1) (refl, refl)
 
 pub tell-spec : {M : Type 1} → statement M
 tell-spec =
