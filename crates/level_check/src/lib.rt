@@ -49,11 +49,12 @@ fn judge(
         return Matched::Refused(28, Named::NoBucket);
     }
     let b = mark_buckets(g, hashes, begins, seeds, scratch);
-    let same = same_words(bitmap, scratch);
-    clear(scratch);
     if b < seeds.len() {
+        clear(scratch);
         return Matched::Refused(29, Named::Bucket(b as u64));
     }
+    let same = same_words(bitmap, scratch);
+    clear(scratch);
     if same {
         return Matched::Accepted;
     }

@@ -1,11 +1,9 @@
--- Assumes nothing.
+-- Each test of a length is the definition's.
 use borrow.Author.Tests.{eq-eqb, ne-eqb}
-use mathlib.Core.Path.{_≡_, refl}
+use mathlib.Core.Path.{refl}
 use borrow.Author.Needs.{needs}
 use Rattle.level_check.proofs.first.lent_bad.Statement.{statement}
 use Rattle.level_check.proofs.first.lent_bad.Tie as tie
-use Rattle.level_check.proofs.first.lent_bad.Reads as reads
-use Rattle.level_check.proofs.first.lent_bad.Lts as lts
 
 returns : tie.Need-returns
 returns c = rw (ne-eqb _ _ (c .if1 .taken)) refl

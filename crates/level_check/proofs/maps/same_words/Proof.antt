@@ -1,14 +1,13 @@
+-- Two lists are alike exactly where their first k words are and what is left is.
 use Rattle.level_check.proofs.Words.{same-next, same-fails, same-ends}
 use Rattle.level_check.specs.Check.{sameWords}
-use lib.ListN.{length, getD, drop}
-use Prim.Native.Nat.{ℕ, _+_, _-_, _<_, _≤_}
-use mathlib.Core.Path.{_≡_, refl, sym, ap, _∙_}
+use lib.ListN.{length, drop}
+use Prim.Native.Nat.{_-_, _≤_}
+use mathlib.Core.Path.{_≡_, refl}
 use native.Mathlib.Omega.{arith}
 use borrow.Author.Needs.{needs}
 use Rattle.level_check.proofs.maps.same_words.Statement.{statement}
 use Rattle.level_check.proofs.maps.same_words.Tie as tie
-use Rattle.level_check.proofs.maps.same_words.Reads as reads
-use Rattle.level_check.proofs.maps.same_words.Lts as lts
 
 abbrev Inv-loop : tie.InvT-loop
 Inv-loop a b k₀ k = (k ≤ length a) × (sameWords a b ≡ sameWords (drop k a) (drop k b))
@@ -32,7 +31,9 @@ shared-slice-read-if1-2 : tie.Need-shared-slice-read-if1-2 Inv-loop μ-loop
 shared-slice-read-if1-2 c = search needs
 
 returns : tie.Need-returns Inv-loop μ-loop
-returns c = same-fails _ _ (c .before .before .before .before .before .pre) (c .before .before .before .before .loop .k) (c .before .before .before .loop-test .taken) (c .if1 .taken) (c .before .before .before .before .loop .inv .1)
+returns c =
+    same-fails _ _ (c .before .before .before .before .before .pre) (c .before .before .before .before .loop .k)
+    (c .before .before .before .loop-test .taken) (c .if1 .taken) (c .before .before .before .before .loop .inv .1)
 
 add-k : tie.Need-add-k Inv-loop μ-loop
 add-k c = search needs
@@ -41,7 +42,8 @@ loop-less : tie.Need-loop-less Inv-loop μ-loop
 loop-less c = search needs
 
 loop-again : tie.Need-loop-again Inv-loop μ-loop
-loop-again c = (omega arith, same-next _ _ (c .before .before .before .before .before .pre) (c .before .before .before .before .loop .k) (c .before .before .before .loop-test .taken) (c .if1 .left) (c .before .before .before .before .loop .inv .1))
+loop-again c =
+    (omega arith, same-next _ _ (c .before .before .before .before .before .pre) (c .before .before .before .before .loop .k) (c .before .before .before .loop-test .taken) (c .if1 .left) (c .before .before .before .before .loop .inv .1))
 
 returns-2 : tie.Need-returns-2 Inv-loop μ-loop
 returns-2 c = same-ends _ _ (c .before .before .pre) (c .before .loop .k) (omega arith) (c .before .loop .inv .1)

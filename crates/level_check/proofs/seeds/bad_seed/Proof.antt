@@ -1,13 +1,7 @@
+-- The three ways out are the three cases of `seedFits`.
 use Rattle.level_check.proofs.Words.{fits-high, fits-keys, fits-empty}
-use Prim.Native.Nat.{ℕ, _+_, _-_, _<_, _≤_}
-use mathlib.Core.Path.{_≡_, refl, sym, ap, _∙_}
-use native.Mathlib.Omega.{arith}
-use borrow.Author.Needs.{needs}
-use borrow.Author.Tests as A
 use Rattle.level_check.proofs.seeds.bad_seed.Statement.{statement}
 use Rattle.level_check.proofs.seeds.bad_seed.Tie as tie
-use Rattle.level_check.proofs.seeds.bad_seed.Reads as reads
-use Rattle.level_check.proofs.seeds.bad_seed.Lts as lts
 
 returns : tie.Need-returns
 returns c = fits-high _ _ _ (c .if1 .taken)

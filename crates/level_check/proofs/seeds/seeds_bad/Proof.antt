@@ -1,20 +1,16 @@
--- Assumes nothing.
+-- The seeds before b are good, and one that is not ends the pass.
 use Rattle.level_check.proofs.Numbering.{seed-good, seed-bad, none-bad, one-bad}
 use Rattle.level_check.specs.Walk.{seedAt}
 use Rattle.checks.proofs.Stray.{begun-grouped}
-use lib.ListN.{length, getD}
-use Prim.Native.Nat.{ℕ, _+_, _-_, _<_, _≤_}
-use mathlib.Core.Bool.{Bool, true, false}
-use mathlib.Core.Path.{_≡_, refl, sym, ap, _∙_}
+use lib.ListN.{length}
+use Prim.Native.Nat.{ℕ, _-_, _<_, _≤_}
+use mathlib.Core.Bool.{true}
+use mathlib.Core.Path.{_≡_}
 use native.Mathlib.Omega.{arith}
 use borrow.Author.Count.{below-more}
 use borrow.Author.Needs.{needs}
 use Rattle.level_check.proofs.seeds.seeds_bad.Statement.{statement}
 use Rattle.level_check.proofs.seeds.seeds_bad.Tie as tie
-use Rattle.level_check.proofs.seeds.seeds_bad.Reads as reads
-use Rattle.level_check.proofs.seeds.seeds_bad.Lts as lts
-use Rattle.groups.proofs.size_of.Reads as size-of-reads
-use Rattle.level_check.proofs.seeds.bad_seed.Reads as bad-seed-reads
 
 abbrev Inv-loop : tie.InvT-loop
 Inv-loop limit begins keys seeds b₀ b = (b ≤ length seeds) × ((a : ℕ) → a < b → seedAt limit begins seeds a ≡ true)
@@ -38,7 +34,11 @@ bad-seed-requires : tie.Need-bad-seed-requires Inv-loop μ-loop
 bad-seed-requires c κs = search needs
 
 returns : tie.Need-returns Inv-loop μ-loop
-returns c = let a = c .before .before .before .before .before .before .before .before .args in one-bad (a .limit) (a .begins .now) (a .seeds .now) (c .before .before .before .before .before .loop .b) (c .before .before .before .before .loop-test .taken) (seed-bad (a .limit) (a .begins .now) (a .seeds .now) (c .before .before .before .before .before .loop .b) (c .before .before .before .size-of .ensures .0) (c .before .bad-seed .ensures) (c .if1 .taken))
+returns c =
+    let a = c .before .before .before .before .before .before .before .before .args in
+    one-bad (a .limit) (a .begins .now) (a .seeds .now) (c .before .before .before .before .before .loop .b)
+    (c .before .before .before .before .loop-test .taken)
+    (seed-bad (a .limit) (a .begins .now) (a .seeds .now) (c .before .before .before .before .before .loop .b) (c .before .before .before .size-of .ensures .0) (c .before .bad-seed .ensures) (c .if1 .taken))
 
 add-b : tie.Need-add-b Inv-loop μ-loop
 add-b c = search needs
@@ -47,10 +47,14 @@ loop-less : tie.Need-loop-less Inv-loop μ-loop
 loop-less c = search needs
 
 loop-again : tie.Need-loop-again Inv-loop μ-loop
-loop-again c = let a = c .before .before .before .before .before .before .before .before .args in (omega arith, below-more _ (c .before .before .before .before .before .loop .b) (c .before .before .before .before .before .loop .inv .1) (seed-good (a .limit) (a .begins .now) (a .seeds .now) (c .before .before .before .before .before .loop .b) (c .before .before .before .size-of .ensures .0) (c .before .bad-seed .ensures) (c .if1 .left)))
+loop-again c =
+    let a = c .before .before .before .before .before .before .before .before .args in
+    (omega arith, below-more _ (c .before .before .before .before .before .loop .b) (c .before .before .before .before .before .loop .inv .1) (seed-good (a .limit) (a .begins .now) (a .seeds .now) (c .before .before .before .before .before .loop .b) (c .before .before .before .size-of .ensures .0) (c .before .bad-seed .ensures) (c .if1 .left)))
 
 returns-2 : tie.Need-returns-2 Inv-loop μ-loop
-returns-2 c = let a = c .before .before .before .before .args in none-bad (a .limit) (a .begins .now) (a .seeds .now) (λ b h. c .before .loop .inv .1 b (omega arith))
+returns-2 c =
+    let a = c .before .before .before .before .args in
+    none-bad (a .limit) (a .begins .now) (a .seeds .now) (λ b h. c .before .loop .inv .1 b (omega arith))
 
 pub seeds-bad-spec : {M : Type 1} → statement M
 seeds-bad-spec =

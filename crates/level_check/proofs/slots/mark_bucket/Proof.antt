@@ -1,12 +1,9 @@
+-- A seed of 0 has no slots, and any other its keys' positions.
 use Rattle.level_check.proofs.Walking.{met-none, met-as, slots-some}
-use mathlib.Core.Path.{_≡_, refl, sym, ap, _∙_}
-use native.Mathlib.Omega.{arith}
+use mathlib.Core.Path.{refl}
 use borrow.Author.Needs.{needs}
 use Rattle.level_check.proofs.slots.mark_bucket.Statement.{statement}
 use Rattle.level_check.proofs.slots.mark_bucket.Tie as tie
-use Rattle.level_check.proofs.slots.mark_bucket.Reads as reads
-use Rattle.level_check.proofs.slots.mark_bucket.Lts as lts
-use Rattle.level_check.proofs.slots.mark_keys.Reads as mark-keys-reads
 
 returns : tie.Need-returns
 returns c = met-none _ _ _ _ _ (c .if1 .taken)

@@ -1,20 +1,14 @@
--- Assumes nothing.
+-- The scratch marks what the buckets before b have met (`Walking`), so the first bucket at which a slot is met again is the lowest.
 use Rattle.level_check.proofs.Walking.{Walking, start, next, hit, done, met-bucket}
-use Rattle.level_check.specs.Check.{levelOf, slotsAt}
-use Rattle.level_check.specs.Walk.{slotsBy}
+use Rattle.level_check.specs.Check.{levelOf}
 use Rattle.checks.proofs.Stray.{begun-grouped}
-use lib.ListN.{length, getD, drop}
-use Prim.Native.Nat.{ℕ, _+_, _-_, _<_, _≤_}
-use mathlib.Core.List.{List}
-use mathlib.Core.Path.{_≡_, refl, sym, ap, _∙_}
+use lib.ListN.{length}
+use Prim.Native.Nat.{_-_, _≤_}
+use mathlib.Core.Path.{_≡_, refl, _∙_}
 use native.Mathlib.Omega.{arith}
 use borrow.Author.Needs.{needs}
 use Rattle.level_check.proofs.slots.mark_buckets.Statement.{statement}
 use Rattle.level_check.proofs.slots.mark_buckets.Tie as tie
-use Rattle.level_check.proofs.slots.mark_buckets.Reads as reads
-use Rattle.level_check.proofs.slots.mark_buckets.Lts as lts
-use Rattle.groups.proofs.keys_of.Reads as keys-of-reads
-use Rattle.level_check.proofs.slots.mark_bucket.Reads as mark-bucket-reads
 
 abbrev Inv-loop : tie.InvT-loop
 Inv-loop g hashes begins seeds scratch₀ b₀ scratch b = (b ≤ length seeds) × (length scratch ≡ length scratch₀) × Walking (levelOf (g .settings) hashes begins) seeds b scratch
@@ -41,7 +35,11 @@ same-length : tie.Need-same-length Inv-loop μ-loop
 same-length c = search needs
 
 returns : tie.Need-returns Inv-loop μ-loop
-returns c = hit _ _ (c .before .before .before .before .before .before .before .before .loop .b) (c .before .before .before .before .before .before .before .loop-test .taken) _ _ (c .before .before .before .before .before .before .before .before .loop .inv .2) (met-bucket _ _ _ _ (c .before .before .before .before .before .before .before .before .loop .b) (c .before .before .before .mark-bucket .ensures) (c .before .before .before .before .before .before .keys-of .ensures) (c .if1 .taken))
+returns c =
+    hit _ _ (c .before .before .before .before .before .before .before .before .loop .b)
+    (c .before .before .before .before .before .before .before .loop-test .taken) _ _
+    (c .before .before .before .before .before .before .before .before .loop .inv .2)
+    (met-bucket _ _ _ _ (c .before .before .before .before .before .before .before .before .loop .b) (c .before .before .before .mark-bucket .ensures) (c .before .before .before .before .before .before .keys-of .ensures) (c .if1 .taken))
 
 add-b : tie.Need-add-b Inv-loop μ-loop
 add-b c = search needs
@@ -50,7 +48,8 @@ loop-less : tie.Need-loop-less Inv-loop μ-loop
 loop-less c = search needs
 
 loop-again : tie.Need-loop-again Inv-loop μ-loop
-loop-again c = (omega arith, c .before .before .before .mark-bucket .ensures .long ∙ c .before .before .before .before .before .before .before .before .loop .inv .1, next _ _ (c .before .before .before .before .before .before .before .before .loop .b) (c .before .before .before .before .before .before .before .loop-test .taken) _ _ (c .before .before .before .before .before .before .before .before .loop .inv .2) (met-bucket _ _ _ _ (c .before .before .before .before .before .before .before .before .loop .b) (c .before .before .before .mark-bucket .ensures) (c .before .before .before .before .before .before .keys-of .ensures) (c .if1 .left)))
+loop-again c =
+    (omega arith, c .before .before .before .mark-bucket .ensures .long ∙ c .before .before .before .before .before .before .before .before .loop .inv .1, next _ _ (c .before .before .before .before .before .before .before .before .loop .b) (c .before .before .before .before .before .before .before .loop-test .taken) _ _ (c .before .before .before .before .before .before .before .before .loop .inv .2) (met-bucket _ _ _ _ (c .before .before .before .before .before .before .before .before .loop .b) (c .before .before .before .mark-bucket .ensures) (c .before .before .before .before .before .before .keys-of .ensures) (c .if1 .left)))
 
 same-length-2 : tie.Need-same-length-2 Inv-loop μ-loop
 same-length-2 c = search needs

@@ -1,18 +1,13 @@
--- Assumes nothing.
+-- The scratch marks what has been met (`Marking`), so a bit that is set is a slot that is met again.
 use Rattle.level_check.proofs.Marking.{Marking, start, next, hit, done}
 use Rattle.rules.specs.Geometry as G
-use lib.ListN.{length, getD, drop}
-use Prim.Native.Nat.{ℕ, _+_, _-_, _<_, _≤_}
-use mathlib.Core.Path.{_≡_, refl, sym, ap, _∙_}
+use lib.ListN.{length}
+use Prim.Native.Nat.{_-_, _≤_}
+use mathlib.Core.Path.{sym, _∙_}
 use native.Mathlib.Omega.{arith}
 use borrow.Author.Needs.{needs}
 use Rattle.level_check.proofs.slots.mark_keys.Statement.{statement}
 use Rattle.level_check.proofs.slots.mark_keys.Tie as tie
-use Rattle.level_check.proofs.slots.mark_keys.Reads as reads
-use Rattle.level_check.proofs.slots.mark_keys.Lts as lts
-use Rattle.geometry.proofs.place.position.Reads as position-reads
-use Rattle.words.proofs.is_occupied.Reads as is-occupied-reads
-use Rattle.words.proofs.set_bit.Reads as set-bit-reads
 
 abbrev Inv-loop : tie.InvT-loop
 Inv-loop g keys seed scratch₀ k₀ scratch k = (k ≤ length keys) × Marking (g .settings .m) (G.position (g .settings) seed) keys scratch₀ k scratch
@@ -39,7 +34,10 @@ same-length : tie.Need-same-length Inv-loop μ-loop
 same-length c = search needs
 
 returns : tie.Need-returns Inv-loop μ-loop
-returns c = hit _ _ _ _ (c .before .before .before .before .before .before .loop .k) _ (c .before .before .before .before .before .loop-test .taken) _ (c .before .before .before .position .ensures .0) (c .before .before .before .position .ensures .1) (c .before .before .before .before .before .before .loop .inv .1) (sym (c .before .is-occupied .ensures) ∙ c .if1 .taken)
+returns c =
+    hit _ _ _ _ (c .before .before .before .before .before .before .loop .k) _ (c .before .before .before .before .before .loop-test .taken) _
+    (c .before .before .before .position .ensures .0) (c .before .before .before .position .ensures .1)
+    (c .before .before .before .before .before .before .loop .inv .1) (sym (c .before .is-occupied .ensures) ∙ c .if1 .taken)
 
 set-bit-requires : tie.Need-set-bit-requires Inv-loop μ-loop
 set-bit-requires c κs = search needs
@@ -51,7 +49,8 @@ loop-less : tie.Need-loop-less Inv-loop μ-loop
 loop-less c = search needs
 
 loop-again : tie.Need-loop-again Inv-loop μ-loop
-loop-again c = (omega arith, next _ _ _ _ (c .before .before .before .before .before .before .before .before .before .before .loop .k) _ (c .before .before .before .before .before .before .before .before .before .loop-test .taken) _ (c .before .before .before .before .before .before .before .position .ensures .0) (c .before .before .before .before .before .before .before .position .ensures .1) (c .before .before .before .before .before .before .before .before .before .before .loop .inv .1) _ (c .before .before .set-bit .ensures) (sym (c .before .before .before .before .before .is-occupied .ensures) ∙ c .before .before .before .before .if1 .left))
+loop-again c =
+    (omega arith, next _ _ _ _ (c .before .before .before .before .before .before .before .before .before .before .loop .k) _ (c .before .before .before .before .before .before .before .before .before .loop-test .taken) _ (c .before .before .before .before .before .before .before .position .ensures .0) (c .before .before .before .before .before .before .before .position .ensures .1) (c .before .before .before .before .before .before .before .before .before .before .loop .inv .1) _ (c .before .before .set-bit .ensures) (sym (c .before .before .before .before .before .is-occupied .ensures) ∙ c .before .before .before .before .if1 .left))
 
 same-length-2 : tie.Need-same-length-2 Inv-loop μ-loop
 same-length-2 c = search needs
