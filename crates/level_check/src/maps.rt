@@ -21,7 +21,9 @@ pub fn same_words(a: &[u64], b: &[u64]) -> bool
 {
     let mut k = 0;
     while k < a.len() {
-        if a[k] != b[k] {
+        let x = a[k];
+        let y = b[k];
+        if x != y {
             return false;
         }
         k += 1;
