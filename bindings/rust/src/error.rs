@@ -42,7 +42,7 @@ pub enum Error {
     StrayHash,
     /// 12: the logarithm table is too short, or falls.
     Table,
-    /// 13: seeds, bitmap, work or slots have not the length that is wanted.
+    /// 13: seeds, bitmap, work, slots or scratch have not the length that is wanted.
     Lengths,
     /// 14: bumping is forbidden and no seed fits this bucket.
     NoSeed {
@@ -57,10 +57,19 @@ pub enum Error {
     Keys,
     /// 21: a table to be filled has no entries, or more than 131,072.
     TableLength,
+    /// 28: a seed has more than sb bits, or an empty bucket has one that is not 0.
+    BadSeed,
+    /// 29: two keys share a slot.
+    SlotTwice {
+        /// The lowest bucket at which a slot is met that an earlier key has taken.
+        bucket: u64,
+    },
+    /// 30: the bitmap does not mark just the keys' slots.
+    Bitmap,
 }
 
 impl Error {
-    /// The error of a number that the library came back with; 14 has a bucket.
+    /// The error of a number that the library came back with; 14 and 29 have a bucket.
     pub(crate) fn of(number: u64, bucket: u64) -> Error {
         match number {
             1 => Error::SeedBits,
@@ -81,6 +90,9 @@ impl Error {
             16 => Error::BucketSize,
             17 => Error::Keys,
             21 => Error::TableLength,
+            28 => Error::BadSeed,
+            29 => Error::SlotTwice { bucket },
+            30 => Error::Bitmap,
             _ => unreachable!("the library answered {number}, which none of its calls does"),
         }
     }
@@ -126,6 +138,11 @@ impl Error {
             }
             Error::Keys => (17, "there are more than 67,108,864 keys"),
             Error::TableLength => (21, "a table has no entries, or more than 131,072"),
+            Error::BadSeed => {
+                (28, "a seed has more than seed_bits bits, or an empty bucket has one that is not 0")
+            }
+            Error::SlotTwice { .. } => (29, "two keys share a slot"),
+            Error::Bitmap => (30, "the bitmap does not mark just the keys' slots"),
         }
     }
 }
@@ -133,7 +150,7 @@ impl Error {
 impl fmt::Display for Error {
     fn fmt(&self, f: &mut fmt::Formatter<'_>) -> fmt::Result {
         f.write_str(self.words())?;
-        if let Error::NoSeed { bucket } = self {
+        if let Error::NoSeed { bucket } | Error::SlotTwice { bucket } = self {
             write!(f, ", bucket {bucket}")?;
         }
         write!(f, " (number {})", self.number())
