@@ -138,9 +138,10 @@ impl Error {
             }
             Error::Keys => (17, "there are more than 67,108,864 keys"),
             Error::TableLength => (21, "a table has no entries, or more than 131,072"),
-            Error::BadSeed => {
-                (28, "a seed has more than seed_bits bits, or an empty bucket has one that is not 0")
-            }
+            Error::BadSeed => (
+                28,
+                "a seed has more than seed_bits bits, or an empty bucket has one that is not 0",
+            ),
             Error::SlotTwice { .. } => (29, "two keys share a slot"),
             Error::Bitmap => (30, "the bitmap does not mark just the keys' slots"),
         }
