@@ -39,7 +39,8 @@ def check_level(lib, s, hashes, begins, seeds, bitmap, scratch):
 
 
 def words(number):
-    """What include/phastr.h says of a number."""
+    """What include/phastr.h says of a number (phastr_number_words)."""
     header = (ROOT / "include" / "phastr.h").read_text()
-    found = re.search(rf"PHASTR_\w+ = {number},?\s*/\*(.*?)\*/", header, re.S)
-    return re.sub(r"\s+", " ", found[1]).strip() if found else ""
+    name = re.search(rf"^    (PHASTR_\w+) = {number}\b", header, re.M)[1]
+    said = re.search(rf"case {name}:.*?return (.*?);\n", header, re.S)[1]
+    return "".join(re.findall(r'"([^"]*)"', said))
