@@ -4,20 +4,19 @@ ghost use mathlib.Core.List.{List};
 ghost use Prim.Native.Nat.{ℕ, _+_, _≤_, _<_, _^_, min};
 ghost use lib.Dec.{eqb};
 ghost use Rattle.rules.specs.Order.{Input};
-ghost use Rattle.heap.specs.Ordered.{Kept};
 ghost use Rattle.window.specs.Queues.{queuesOf};
-ghost use Rattle.window.specs.Changes.{Enterable, Entered, Choice, Out, Poppable, Popping};
+ghost use Rattle.window.specs.Changes.{Enterable, Entered, Choice, Poppable, Popping};
 ghost use Rattle.window.specs.Window.{state, stateAt, Ranged, Window, Windowed, Full, Turned, Entering, Waiting, Filled};
 
 pub mod buckets;
 pub mod cyclic;
+pub mod large;
 pub mod queues;
 pub mod rule;
 
 // Whose turn it is: the window moves over the buckets of a range, and each turn takes the one that rule W names.
 // Its arrays are locals of the sweep, each lent by its own reference, so that nothing large is copied; what changes
-// at every turn is small and goes by value. `large` is an array and no part of lent work: its size is fixed, and a
-// heap of keys is signed where work is not.
+// at every turn is small and goes by value.
 
 // Where the window stands: its oldest bucket, the next one to enter, the sizes below 64 that it has, and how many
 // buckets of 64 keys and more.
@@ -34,13 +33,13 @@ pub struct Turn {
     pub view: View,
 }
 
-// What the queues and the heap have: the sizes below 64, and how many buckets of 64 keys and more.
+// What the window has: the sizes below 64, and how many buckets of 64 keys and more.
 pub struct Held {
     pub nonempty: u64,
     pub large: usize,
 }
 
-// A bucket that is taken, and what the queues and the heap have then.
+// A bucket that is taken, and what the window has then.
 pub struct Popped {
     pub bucket: usize,
     pub held: Held,
@@ -60,7 +59,7 @@ fn smaller(a: usize, b: usize) -> usize
     if a < b { a } else { b }
 }
 
-// Bucket `b`, of `size` keys, enters: the queue of its size, or the heap from 64 keys on. An empty bucket stays out.
+// Bucket `b`, of `size` keys, enters: the queue of its size; from 64 keys on it is only marked and counted. An empty bucket stays out.
 fn enter(
     queues: &mut [[u8; 256]; 64],
     heads: &[u8; 64],
@@ -68,16 +67,15 @@ fn enter(
     keys: &mut [i64; 64],
     table: &[i64; 64],
     set: &mut [u64; 16],
-    large: &mut [i64; 256],
     on: u64,
     n: usize,
     b: usize,
     size: usize,
 ) -> Held
-    requires { ⌜ Enterable (now table) (queuesOf (now queues) (now heads) (now lengths) (now keys) on) (now set) (now large) n b size ⌝ }
+    requires { ⌜ Enterable (now table) (queuesOf (now queues) (now heads) (now lengths) (now keys) on) (now set) n b size ⌝ }
     ensures { λ r. ⌜ Entered (now (table .entry))
-        (queuesOf (now (queues .entry)) (now (heads .entry)) (now (lengths .entry)) (now (keys .entry)) on) (now (set .entry)) (now (large .entry)) n b size
-        (queuesOf (now (queues .exit)) (now (heads .entry)) (now (lengths .exit)) (now (keys .exit)) (r .nonempty)) (now (set .exit)) (now (large .exit)) (r .large) ⌝ }
+        (queuesOf (now (queues .entry)) (now (heads .entry)) (now (lengths .entry)) (now (keys .entry)) on) (now (set .entry)) n b size
+        (queuesOf (now (queues .exit)) (now (heads .entry)) (now (lengths .exit)) (now (keys .exit)) (r .nonempty)) (now (set .exit)) (r .large) ⌝ }
 {
     if size == 0 {
         return Held {
@@ -93,9 +91,6 @@ fn enter(
             large: n,
         };
     }
-    let w = rule::beyond(table[6], table[7], size);
-    let k = rule::key(w, b);
-    heap::put(large, n, k);
     Held {
         nonempty: on,
         large: n + 1,
@@ -110,17 +105,16 @@ fn fill(
     keys: &mut [i64; 64],
     table: &[i64; 64],
     set: &mut [u64; 16],
-    large: &mut [i64; 256],
     begins: &[u32],
     hi: usize,
     view: View,
 ) -> View
-    requires { ⌜ Entering (now begins) (now table) hi (state (now queues) (now heads) (now lengths) (now keys) (now set) (now large) view) ⌝ }
+    requires { ⌜ Entering (now begins) (now table) hi (state (now queues) (now heads) (now lengths) (now keys) (now set) view) ⌝ }
     ensures { λ r. ⌜ (r .oldest ≡ view .oldest) × (r .next ≡ min (view .oldest + 256) hi) ⌝ }
     ensures { λ r. ⌜ ((i : Input) (lo k : ℕ) (rest : List ℕ)
         → Ranged i (now (begins .entry)) (now (table .entry)) hi
-        → Window i lo hi k (state (now (queues .entry)) (now (heads .entry)) (now (lengths .entry)) (now (keys .entry)) (now (set .entry)) (now (large .entry)) view) rest
-        → Window i lo hi k (state (now (queues .exit)) (now (heads .entry)) (now (lengths .exit)) (now (keys .exit)) (now (set .exit)) (now (large .exit)) r) rest) ⌝ }
+        → Window i lo hi k (state (now (queues .entry)) (now (heads .entry)) (now (lengths .entry)) (now (keys .entry)) (now (set .entry)) view) rest
+        → Window i lo hi k (state (now (queues .exit)) (now (heads .entry)) (now (lengths .exit)) (now (keys .exit)) (now (set .exit)) r) rest) ⌝ }
 {
     let o = view.oldest;
     let to = smaller(o + 256, hi);
@@ -129,19 +123,7 @@ fn fill(
     let mut b = view.next;
     while b < to {
         let size = groups::size_of(begins, b);
-        let held = enter(
-            queues,
-            heads,
-            lengths,
-            keys,
-            table,
-            set,
-            large,
-            on,
-            n,
-            b,
-            size,
-        );
+        let held = enter(queues, heads, lengths, keys, table, set, on, n, b, size);
         on = held.nonempty;
         n = held.large;
         b += 1;
@@ -162,16 +144,15 @@ pub fn refill(
     keys: &mut [i64; 64],
     table: &[i64; 64],
     set: &mut [u64; 16],
-    large: &mut [i64; 256],
     begins: &[u32],
     hi: usize,
     view: View,
 ) -> View
-    requires { ⌜ Waiting (now begins) (now table) hi (state (now queues) (now heads) (now lengths) (now keys) (now set) (now large) view) ⌝ }
+    requires { ⌜ Waiting (now begins) (now table) hi (state (now queues) (now heads) (now lengths) (now keys) (now set) view) ⌝ }
     ensures { λ r. ⌜ ((i : Input) (lo k : ℕ)
         → Ranged i (now (begins .entry)) (now (table .entry)) hi
-        → Windowed i lo hi k (state (now (queues .entry)) (now (heads .entry)) (now (lengths .entry)) (now (keys .entry)) (now (set .entry)) (now (large .entry)) view)
-        → Full i lo hi k (state (now (queues .exit)) (now (heads .entry)) (now (lengths .exit)) (now (keys .exit)) (now (set .exit)) (now (large .exit)) r)) ⌝ }
+        → Windowed i lo hi k (state (now (queues .entry)) (now (heads .entry)) (now (lengths .entry)) (now (keys .entry)) (now (set .entry)) view)
+        → Full i lo hi k (state (now (queues .exit)) (now (heads .entry)) (now (lengths .exit)) (now (keys .exit)) (now (set .exit)) r)) ⌝ }
 {
     if is_empty(view) {
         let o = buckets::skip(begins, view.next, hi);
@@ -181,38 +162,15 @@ pub fn refill(
             nonempty: view.nonempty,
             large: view.large,
         };
-        return fill(
-            queues,
-            heads,
-            lengths,
-            keys,
-            table,
-            set,
-            large,
-            begins,
-            hi,
-            moved,
-        );
+        return fill(queues, heads, lengths, keys, table, set, begins, hi, moved);
     }
-    fill(
-        queues,
-        heads,
-        lengths,
-        keys,
-        table,
-        set,
-        large,
-        begins,
-        hi,
-        view,
-    )
+    fill(queues, heads, lengths, keys, table, set, begins, hi, view)
 }
 
-// The size whose queue has the bucket of the greatest key, or 64 where the heap has it.
-fn whose(keys: &[i64; 64], nonempty: u64, large: &[i64; 256], n: usize) -> usize
+// The size whose queue has the bucket of the greatest key, or 64 where the largest bucket has it; there are `n` large ones.
+fn whose(keys: &[i64; 64], nonempty: u64, n: usize, largest: i64) -> usize
     requires { ⌜ (nonempty ≡ 0 → 0 < n) ⌝ }
-    requires { ⌜ Kept (now large) n ⌝ }
-    ensures { λ r. ⌜ Choice (now (keys .entry)) nonempty (now (large .entry)) n r ⌝ }
+    ensures { λ r. ⌜ Choice (now (keys .entry)) nonempty n largest r ⌝ }
 {
     if nonempty == 0 {
         return 64;
@@ -222,22 +180,10 @@ fn whose(keys: &[i64; 64], nonempty: u64, large: &[i64; 256], n: usize) -> usize
         return size;
     }
     let k = keys[size];
-    let l = heap::greatest(large, n);
-    if k < l {
+    if k < largest {
         return 64;
     }
     size
-}
-
-// The heap's greatest key is taken out. The result is its bucket, from `oldest` on.
-fn pop_large(large: &mut [i64; 256], n: usize, oldest: usize) -> usize
-    requires { ⌜ Kept (now large) n ⌝ }
-    requires { ⌜ (0 < n) × (oldest ≤ 67108865) ⌝ }
-    ensures { λ r. ⌜ Out (now (large .entry)) n oldest r (now (large .exit)) ⌝ }
-{
-    let k = heap::pop(large, n);
-    let place = rule::place_of(k);
-    oldest + (place + (1024 - oldest % 1024)) % 1024
 }
 
 // The bucket of the greatest key is taken out.
@@ -247,21 +193,23 @@ fn pop(
     lengths: &mut [u16; 64],
     keys: &mut [i64; 64],
     table: &[i64; 64],
-    large: &mut [i64; 256],
+    set: &[u64; 16],
+    begins: &[u32],
     on: u64,
     n: usize,
     oldest: usize,
+    next: usize,
 ) -> Popped
-    requires { ⌜ Poppable (now table) (queuesOf (now queues) (now heads) (now lengths) (now keys) on) (now large) n oldest ⌝ }
+    requires { ⌜ Poppable (now table) (queuesOf (now queues) (now heads) (now lengths) (now keys) on) (now set) (now begins) n oldest next ⌝ }
     ensures { λ r. ⌜ Popping (now (table .entry))
-        (queuesOf (now (queues .entry)) (now (heads .entry)) (now (lengths .entry)) (now (keys .entry)) on) (now (large .entry)) n oldest (r .bucket)
-        (queuesOf (now (queues .entry)) (now (heads .exit)) (now (lengths .exit)) (now (keys .exit)) (r .held .nonempty)) (now (large .exit)) (r .held .large) ⌝ }
+        (queuesOf (now (queues .entry)) (now (heads .entry)) (now (lengths .entry)) (now (keys .entry)) on) (now (set .entry)) (now (begins .entry)) n oldest next (r .bucket)
+        (queuesOf (now (queues .entry)) (now (heads .exit)) (now (lengths .exit)) (now (keys .exit)) (r .held .nonempty)) (r .held .large) ⌝ }
 {
-    let size = whose(keys, on, large, n);
+    let l = large::look(set, begins, table, n, oldest, next);
+    let size = whose(keys, on, n, l.key);
     if size == 64 {
-        let b = pop_large(large, n, oldest);
         return Popped {
-            bucket: b,
+            bucket: l.bucket,
             held: Held {
                 nonempty: on,
                 large: n - 1,
@@ -286,17 +234,16 @@ pub fn take(
     keys: &mut [i64; 64],
     table: &[i64; 64],
     set: &mut [u64; 16],
-    large: &mut [i64; 256],
     begins: &[u32],
     hi: usize,
     view: View,
 ) -> Turn
-    requires { ⌜ Filled (now begins) (now table) hi (state (now queues) (now heads) (now lengths) (now keys) (now set) (now large) view) ⌝ }
+    requires { ⌜ Filled (now begins) (now table) hi (state (now queues) (now heads) (now lengths) (now keys) (now set) view) ⌝ }
     requires { ⌜ (view .nonempty ≡ 0 → 0 < view .large) ⌝ }
     ensures { λ r. ⌜ ((i : Input) (lo k : ℕ)
         → Ranged i (now (begins .entry)) (now (table .entry)) hi
-        → Full i lo hi k (state (now (queues .entry)) (now (heads .entry)) (now (lengths .entry)) (now (keys .entry)) (now (set .entry)) (now (large .entry)) view)
-        → Turned i lo hi k (r .bucket) (state (now (queues .entry)) (now (heads .exit)) (now (lengths .exit)) (now (keys .exit)) (now (set .exit)) (now (large .exit)) (r .view))) ⌝ }
+        → Full i lo hi k (state (now (queues .entry)) (now (heads .entry)) (now (lengths .entry)) (now (keys .entry)) (now (set .entry)) view)
+        → Turned i lo hi k (r .bucket) (state (now (queues .entry)) (now (heads .exit)) (now (lengths .exit)) (now (keys .exit)) (now (set .exit)) (r .view))) ⌝ }
     ensures { λ r. ⌜ (view .oldest ≤ r .bucket) × (r .bucket < view .oldest + 256) ⌝ }
 {
     let o = view.oldest;
@@ -307,10 +254,12 @@ pub fn take(
         lengths,
         keys,
         table,
-        large,
+        set,
+        begins,
         view.nonempty,
         view.large,
         o,
+        e,
     );
     let b = p.bucket;
     let held = p.held;

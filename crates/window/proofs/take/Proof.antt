@@ -15,20 +15,17 @@ use Rattle.window.proofs.cyclic.first_in.Reads as first-in-reads
 use Rattle.window.proofs.pop.Reads as pop-reads
 use Rattle.words.proofs.clear_bit.Reads as clear-bit-reads
 
--- src/lib.rt:302:9
 pop-requires : tie.Need-pop-requires
 pop-requires c κs =
     let s = c .before .before .before .before .before in
     let d = s .pre .0 in
     let v = s .args .view in
     ready (d .i) (now (s .args .begins)) (now (s .args .table)) (s .args .hi) (d .ranged) (d .lo) (d .k) (queuesOf (now (s .args .queues)) (now (s .args .heads)) (now (s .args .lengths)) (now (s .args .keys)) (v .nonempty))
-    (now (s .args .set)) (now (s .args .large)) (v .large) (v .oldest) (v .next) (d .full) (s .pre .1)
+    (now (s .args .set)) (v .large) (v .oldest) (v .next) (d .full) (s .pre .1)
 
--- src/lib.rt:315:5
 clear-bit-requires : tie.Need-clear-bit-requires
 clear-bit-requires c κs = search needs
 
--- src/lib.rt:317:42
 add-first-in : tie.Need-add-first-in
 add-first-in c =
     let s = c .before .before .before .before .before .before .before .before .before .before .before in
@@ -37,46 +34,43 @@ add-first-in c =
     omega (
       arith,
       reaches (d .i) (now (s .args .begins)) (now (s .args .table)) (s .args .hi) (d .ranged) (d .lo) (d .k) (queuesOf (now (s .args .queues)) (now (s .args .heads)) (now (s .args .lengths)) (now (s .args .keys)) (v .nonempty))
-          (now (s .args .set)) (now (s .args .large)) (v .large) (v .oldest) (v .next) (d .full),
+          (now (s .args .set)) (v .large) (v .oldest) (v .next) (d .full),
     )
 
--- src/lib.rt:317:13
 first-in-requires : tie.Need-first-in-requires
 first-in-requires c κs =
     let s = c .before .before .before .before .before .before .before .before .before .before .before in
     let d = s .pre .0 in
     let v = s .args .view in
     let q = queuesOf (now (s .args .queues)) (now (s .args .heads)) (now (s .args .lengths)) (now (s .args .keys)) (v .nonempty) in
-    let r = reaches (d .i) (now (s .args .begins)) (now (s .args .table)) (s .args .hi) (d .ranged) (d .lo) (d .k) q (now (s .args .set)) (now (s .args .large)) (v .large) (v .oldest) (v .next) (d .full) in
-    let p = pop-range (d .i) (now (s .args .begins)) (now (s .args .table)) (s .args .hi) (d .ranged) (d .lo) (d .k) q (now (s .args .set)) (now (s .args .large)) (v .large) (v .oldest) (v .next) (d .full) _ _ _ _ (c .before .before .before .before .before .pop .ensures) in
+    let r = reaches (d .i) (now (s .args .begins)) (now (s .args .table)) (s .args .hi) (d .ranged) (d .lo) (d .k) q (now (s .args .set)) (v .large) (v .oldest) (v .next) (d .full) in
+    let p = pop-range (d .i) (now (s .args .begins)) (now (s .args .table)) (s .args .hi) (d .ranged) (d .lo) (d .k) q (now (s .args .set)) (v .large) (v .oldest) (v .next) (d .full) _ _ _ (c .before .before .before .before .before .pop .ensures) in
     let same = c .before .if1 .taken in (
       (omega (arith, p, same), (omega (arith, d .full .window .holds .narrow), omega (arith, r))),
       ap length (c .before .before .clear-bit .ensures) ∙ length-cleared (now (s .args .set)) (c .before .before .before .before .before .pop .result .bucket % 1024) ∙ d .full .window .holds .marks .long,
     )
 
--- src/lib.rt:318:9
 returns : tie.Need-returns
 returns c =
     let s = c .before .before .before .before .before .before .before .before .before .before .before .before in
     let v = s .args .view in
     let d = s .pre .0 in
     let near =
-    pop-range (d .i) (now (s .args .begins)) (now (s .args .table)) (s .args .hi) (d .ranged) (d .lo) (d .k) (queuesOf (now (s .args .queues)) (now (s .args .heads)) (now (s .args .lengths)) (now (s .args .keys)) (v .nonempty)) (now (s .args .set)) (now (s .args .large)) (v .large) (v .oldest) (v .next) (d .full) _ _ _ _ (c .before .before .before .before .before .before .pop .ensures) in (
+    pop-range (d .i) (now (s .args .begins)) (now (s .args .table)) (s .args .hi) (d .ranged) (d .lo) (d .k) (queuesOf (now (s .args .queues)) (now (s .args .heads)) (now (s .args .lengths)) (now (s .args .keys)) (v .nonempty)) (now (s .args .set)) (v .large) (v .oldest) (v .next) (d .full) _ _ _ (c .before .before .before .before .before .before .pop .ensures) in (
       λ i lo k g f. pop-oldest i (now (s .args .begins)) (now (s .args .table)) (s .args .hi) g lo k (queuesOf (now (s .args .queues)) (now (s .args .heads)) (now (s .args .lengths)) (now (s .args .keys)) (v .nonempty))
-          (now (s .args .set)) (now (s .args .large)) (v .large) (v .oldest) (v .next) f _ _ _ _ (c .before .before .before .before .before .before .pop .ensures) _ (c .first-in .result) (c .before .before .before .clear-bit .ensures) (c .before .before .if1 .taken) (c .first-in .ensures),
+          (now (s .args .set)) (v .large) (v .oldest) (v .next) f _ _ _ (c .before .before .before .before .before .before .pop .ensures) _ (c .first-in .result) (c .before .before .before .clear-bit .ensures) (c .before .before .if1 .taken) (c .first-in .ensures),
       (near .0, omega (arith, near .1, d .full .window .holds .narrow)),
     )
 
--- src/lib.rt:281:1
 returns-2 : tie.Need-returns-2
 returns-2 c =
     let s = c .before .before .before .before .before .before .before .before .before .before in
     let v = s .args .view in
     let d = s .pre .0 in
     let near =
-    pop-range (d .i) (now (s .args .begins)) (now (s .args .table)) (s .args .hi) (d .ranged) (d .lo) (d .k) (queuesOf (now (s .args .queues)) (now (s .args .heads)) (now (s .args .lengths)) (now (s .args .keys)) (v .nonempty)) (now (s .args .set)) (now (s .args .large)) (v .large) (v .oldest) (v .next) (d .full) _ _ _ _ (c .before .before .before .before .pop .ensures) in (
+    pop-range (d .i) (now (s .args .begins)) (now (s .args .table)) (s .args .hi) (d .ranged) (d .lo) (d .k) (queuesOf (now (s .args .queues)) (now (s .args .heads)) (now (s .args .lengths)) (now (s .args .keys)) (v .nonempty)) (now (s .args .set)) (v .large) (v .oldest) (v .next) (d .full) _ _ _ (c .before .before .before .before .pop .ensures) in (
       λ i lo k g f. pop-other i (now (s .args .begins)) (now (s .args .table)) (s .args .hi) g lo k (queuesOf (now (s .args .queues)) (now (s .args .heads)) (now (s .args .lengths)) (now (s .args .keys)) (v .nonempty))
-          (now (s .args .set)) (now (s .args .large)) (v .large) (v .oldest) (v .next) f _ _ _ _ (c .before .before .before .before .pop .ensures) _ (c .before .clear-bit .ensures) (c .if1 .left),
+          (now (s .args .set)) (v .large) (v .oldest) (v .next) f _ _ _ (c .before .before .before .before .pop .ensures) _ (c .before .clear-bit .ensures) (c .if1 .left),
       (near .0, omega (arith, near .1, d .full .window .holds .narrow)),
     )
 
