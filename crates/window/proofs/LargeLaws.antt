@@ -17,7 +17,7 @@ use Rattle.groups.specs.Groups.{sizeIn}
 use Rattle.window.specs.Key.{keyOf, beyondOf}
 use Rattle.window.specs.Cyclic.{FirstIn}
 use Rattle.window.specs.declared.large.Best.{Best}
-use Rattle.window.specs.Large.{largeKey, lowest, betterOf, Searched, LargeIn, Largest}
+use Rattle.window.specs.Large.{largeKey, keyIn, lowest, betterOf, Searched, LargeIn, Largest}
 use Rattle.window.proofs.KeyLaws.{key-is, key-level, key-chain, key-after, priority-between}
 
 -- every key is above the lowest
@@ -29,10 +29,6 @@ above-lowest w6 w7 size b l =
     lt-by lowest (keyOf w b) (omega (arith, h, key-is w b))
 
 module _ (set begins : List ℕ) (table : List ℤ) (o e : ℕ) where
-  -- the key that the code makes of bucket x
-  abbrev keyIn : ℕ → ℤ
-  keyIn x = largeKey (getD table 6 (pos 0)) (getD table 7 (pos 0)) (sizeIn begins x) x
-
   -- the buckets below b are passed, and `best` is the best of them
   pub record Scanned (b : ℕ) (best : Best) : Type 0 where
     pub from : o ≤ b
@@ -40,8 +36,8 @@ module _ (set begins : List ℕ) (table : List ℤ) (o e : ℕ) where
     pub at : b < e → slot set (b % 1024) ≡ 1
     pub high : best .bucket ≤ e
     pub least : best .bucket ≡ e → best .key ≡ lowest
-    pub found : best .bucket < e → LargeIn set begins o e (best .bucket) × (best .key ≡ keyIn (best .bucket))
-    pub first : (x : ℕ) → LargeIn set begins o e x → x < b → (best .bucket < e) × (ltZ (best .key) (keyIn x) ≡ false)
+    pub found : best .bucket < e → LargeIn set begins o e (best .bucket) × (best .key ≡ keyIn begins table (best .bucket))
+    pub first : (x : ℕ) → LargeIn set begins o e x → x < b → (best .bucket < e) × (ltZ (best .key) (keyIn begins table x) ≡ false)
 
   pub start : (r : ℕ) → FirstIn set o e r → Scanned r (record { bucket = e; key = lowest })
   start r f =
@@ -67,7 +63,7 @@ module _ (set begins : List ℕ) (table : List ℤ) (o e : ℕ) where
         over x k n = omega arith
 
     -- best stays, where b is not large or has no greater key
-    stays : (r : ℕ) → FirstIn set (b + 1) e r → (64 ≤ sizeIn begins b → (best .bucket < e) × (ltZ (best .key) (keyIn b) ≡ false)) → Scanned r best
+    stays : (r : ℕ) → FirstIn set (b + 1) e r → (64 ≤ sizeIn begins b → (best .bucket < e) × (ltZ (best .key) (keyIn begins table b) ≡ false)) → Scanned r best
     stays r f n =
         record {
           from = omega (arith, h .from, f .from);
@@ -79,12 +75,12 @@ module _ (set begins : List ℕ) (table : List ℤ) (o e : ℕ) where
           first =
               λ x g m.
               ⊎-elim (λ (k : x < b). h .first x g k)
-              (λ (z : x ≡ b). subst (λ (y : ℕ). (best .bucket < e) × (ltZ (best .key) (keyIn y) ≡ false)) (sym z) (n (subst (λ (y : ℕ). 64 ≤ sizeIn begins y) z (g .large))))
+              (λ (z : x ≡ b). subst (λ (y : ℕ). (best .bucket < e) × (ltZ (best .key) (keyIn begins table y) ≡ false)) (sym z) (n (subst (λ (y : ℕ). 64 ≤ sizeIn begins y) z (g .large))))
               (below r x f g m);
         }
 
     -- b is better
-    wins : (r : ℕ) → FirstIn set (b + 1) e r → 64 ≤ sizeIn begins b → ltZ (best .key) (keyIn b) ≡ true → Scanned r (record { bucket = b; key = keyIn b })
+    wins : (r : ℕ) → FirstIn set (b + 1) e r → 64 ≤ sizeIn begins b → ltZ (best .key) (keyIn begins table b) ≡ true → Scanned r (record { bucket = b; key = keyIn begins table b })
     wins r f k u =
         record {
           from = omega (arith, h .from, f .from);
@@ -96,27 +92,27 @@ module _ (set begins : List ℕ) (table : List ℤ) (o e : ℕ) where
           first =
               λ x g m. (
                 l,
-                ⊎-elim (λ (p : x < b). key-chain (keyIn b) (best .key) (keyIn x) (key-after (best .key) (keyIn b) u) (h .first x g p .1))
-                    (λ (z : x ≡ b). key-level (keyIn b) (keyIn x) (ap keyIn (sym z)))
+                ⊎-elim (λ (p : x < b). key-chain (keyIn begins table b) (best .key) (keyIn begins table x) (key-after (best .key) (keyIn begins table b) u) (h .first x g p .1))
+                    (λ (z : x ≡ b). key-level (keyIn begins table b) (keyIn begins table x) (ap (keyIn begins table) (sym z)))
                     (below r x f g m),
               );
         }
 
     pub step : (best′ : Best) (r : ℕ) → best′ ≡ betterOf (getD table 6 (pos 0)) (getD table 7 (pos 0)) best (sizeIn begins b) b → FirstIn set (b + 1) e r → Scanned r best′
     unfolding betterOf
-    step best′ r q f = subst (λ (y : Best). Scanned r y) (sym q) (by (ltb (sizeIn begins b) 64) (ltZ (best .key) (keyIn b)) refl refl)
+    step best′ r q f = subst (λ (y : Best). Scanned r y) (sym q) (by (ltb (sizeIn begins b) 64) (ltZ (best .key) (keyIn begins table b)) refl refl)
       where
-        some : ltZ (best .key) (keyIn b) ≡ false → best .bucket < e
+        some : ltZ (best .key) (keyIn begins table b) ≡ false → best .bucket < e
         some v =
             ⊎-elim (λ (z : best .bucket ≡ e). absurd (clash (h .least z))) (λ n. omega (arith, h .high)) (same-or-not (best .bucket) e)
           where
             clash : best .key ≡ lowest → ⊥
             clash z =
-                let a = lt-true lowest (keyIn b) (above-lowest (getD table 6 (pos 0)) (getD table 7 (pos 0)) (sizeIn begins b) b (omega (arith, s .low))) in
-                let c = lt-false (best .key) (keyIn b) v in
+                let a = lt-true lowest (keyIn begins table b) (above-lowest (getD table 6 (pos 0)) (getD table 7 (pos 0)) (sizeIn begins b) b (omega (arith, s .measured .low))) in
+                let c = lt-false (best .key) (keyIn begins table b) v in
                 omega (arith, ap up z, ap dn z)
 
-        by : (t u : Bool) → ltb (sizeIn begins b) 64 ≡ t → ltZ (best .key) (keyIn b) ≡ u → Scanned r (cond t best (cond u (record { bucket = b; key = keyIn b }) best))
+        by : (t u : Bool) → ltb (sizeIn begins b) 64 ≡ t → ltZ (best .key) (keyIn begins table b) ≡ u → Scanned r (cond t best (cond u (record { bucket = b; key = keyIn begins table b }) best))
         by true u p v = stays r f (λ k. absurd (omega (arith, ltb-true (sizeIn begins b) 64 p)))
         by false true p v = wins r f (omega (arith, ltb-false (sizeIn begins b) 64 p)) v
         by false false p v = stays r f (λ k. (some v, v))

@@ -18,8 +18,8 @@ pub mod rule;
 // Its arrays are locals of the sweep, each lent by its own reference, so that nothing large is copied; what changes
 // at every turn is small and goes by value.
 
-// Where the window stands: its oldest bucket, the next one to enter, the sizes below 64 that it has, and how many
-// buckets of 64 keys and more.
+// Where the window stands: its oldest bucket, the next one to enter, the sizes below 64 that it has, and the bucket of 64
+// keys and more that goes first, told by one more than its number, with 0 for none.
 pub struct View {
     pub oldest: usize,
     pub next: usize,
@@ -33,16 +33,16 @@ pub struct Turn {
     pub view: View,
 }
 
-// What the window has: the sizes below 64, and how many buckets of 64 keys and more.
+// What the window has: the sizes below 64, and of the buckets of 64 keys and more the one that goes first.
 pub struct Held {
     pub nonempty: u64,
     pub large: usize,
 }
 
-// A bucket that is taken, and what the window has then.
+// A bucket that is taken, and the sizes below 64 that the window has then.
 pub struct Popped {
     pub bucket: usize,
-    pub held: Held,
+    pub nonempty: u64,
 }
 
 // Whether the window has no bucket.
@@ -59,7 +59,8 @@ fn smaller(a: usize, b: usize) -> usize
     if a < b { a } else { b }
 }
 
-// Bucket `b`, of `size` keys, enters: the queue of its size; from 64 keys on it is only marked and counted. An empty bucket stays out.
+// Bucket `b`, of `size` keys, enters: the queue of its size; from 64 keys on it is only marked, and may now go first among
+// those. An empty bucket stays out.
 fn enter(
     queues: &mut [[u8; 256]; 64],
     heads: &[u8; 64],
@@ -67,14 +68,15 @@ fn enter(
     keys: &mut [i64; 64],
     table: &[i64; 64],
     set: &mut [u64; 16],
+    begins: &[u32],
     on: u64,
     n: usize,
     b: usize,
     size: usize,
 ) -> Held
-    requires { ⌜ Enterable (now table) (queuesOf (now queues) (now heads) (now lengths) (now keys) on) (now set) n b size ⌝ }
+    requires { ⌜ Enterable (now table) (queuesOf (now queues) (now heads) (now lengths) (now keys) on) (now set) (now begins) n b size ⌝ }
     ensures { λ r. ⌜ Entered (now (table .entry))
-        (queuesOf (now (queues .entry)) (now (heads .entry)) (now (lengths .entry)) (now (keys .entry)) on) (now (set .entry)) n b size
+        (queuesOf (now (queues .entry)) (now (heads .entry)) (now (lengths .entry)) (now (keys .entry)) on) (now (set .entry)) (now (begins .entry)) n b size
         (queuesOf (now (queues .exit)) (now (heads .entry)) (now (lengths .exit)) (now (keys .exit)) (r .nonempty)) (now (set .exit)) (r .large) ⌝ }
 {
     if size == 0 {
@@ -91,9 +93,10 @@ fn enter(
             large: n,
         };
     }
+    let first = large::first_of(begins, table, n, b);
     Held {
         nonempty: on,
-        large: n + 1,
+        large: first,
     }
 }
 
@@ -123,7 +126,19 @@ fn fill(
     let mut b = view.next;
     while b < to {
         let size = groups::size_of(begins, b);
-        let held = enter(queues, heads, lengths, keys, table, set, on, n, b, size);
+        let held = enter(
+            queues,
+            heads,
+            lengths,
+            keys,
+            table,
+            set,
+            begins,
+            on,
+            n,
+            b,
+            size,
+        );
         on = held.nonempty;
         n = held.large;
         b += 1;
@@ -167,7 +182,7 @@ pub fn refill(
     fill(queues, heads, lengths, keys, table, set, begins, hi, view)
 }
 
-// The size whose queue has the bucket of the greatest key, or 64 where the largest bucket has it; there are `n` large ones.
+// The size whose queue has the bucket of the greatest key, or 64 where the bucket that `n` tells has it, whose key is `largest`.
 fn whose(keys: &[i64; 64], nonempty: u64, n: usize, largest: i64) -> usize
     requires { ⌜ (nonempty ≡ 0 → 0 < n) ⌝ }
     ensures { λ r. ⌜ Choice (now (keys .entry)) nonempty n largest r ⌝ }
@@ -193,36 +208,28 @@ fn pop(
     lengths: &mut [u16; 64],
     keys: &mut [i64; 64],
     table: &[i64; 64],
-    set: &[u64; 16],
     begins: &[u32],
     on: u64,
     n: usize,
     oldest: usize,
-    next: usize,
 ) -> Popped
-    requires { ⌜ Poppable (now table) (queuesOf (now queues) (now heads) (now lengths) (now keys) on) (now set) (now begins) n oldest next ⌝ }
+    requires { ⌜ Poppable (now table) (queuesOf (now queues) (now heads) (now lengths) (now keys) on) (now begins) n oldest ⌝ }
     ensures { λ r. ⌜ Popping (now (table .entry))
-        (queuesOf (now (queues .entry)) (now (heads .entry)) (now (lengths .entry)) (now (keys .entry)) on) (now (set .entry)) (now (begins .entry)) n oldest next (r .bucket)
-        (queuesOf (now (queues .entry)) (now (heads .exit)) (now (lengths .exit)) (now (keys .exit)) (r .held .nonempty)) (r .held .large) ⌝ }
+        (queuesOf (now (queues .entry)) (now (heads .entry)) (now (lengths .entry)) (now (keys .entry)) on) (now (begins .entry)) n oldest (r .bucket)
+        (queuesOf (now (queues .entry)) (now (heads .exit)) (now (lengths .exit)) (now (keys .exit)) (r .nonempty)) ⌝ }
 {
-    let l = large::look(set, begins, table, n, oldest, next);
-    let size = whose(keys, on, n, l.key);
+    let k = large::key_told(begins, table, n);
+    let size = whose(keys, on, n, k);
     if size == 64 {
         return Popped {
-            bucket: l.bucket,
-            held: Held {
-                nonempty: on,
-                large: n - 1,
-            },
+            bucket: n - 1,
+            nonempty: on,
         };
     }
     let s = queues::shift(queues, heads, lengths, keys, table, on, oldest, size);
     Popped {
         bucket: s.bucket,
-        held: Held {
-            nonempty: s.nonempty,
-            large: n,
-        },
+        nonempty: s.nonempty,
     }
 }
 
@@ -248,41 +255,41 @@ pub fn take(
 {
     let o = view.oldest;
     let e = view.next;
+    let n = view.large;
     let p = pop(
         queues,
         heads,
         lengths,
         keys,
         table,
-        set,
         begins,
         view.nonempty,
-        view.large,
+        n,
         o,
-        e,
     );
     let b = p.bucket;
-    let held = p.held;
     words::clear_bit(set, b % 1024);
     if b == o {
         let next = cyclic::first_in(set, o + 1, e);
+        let large = large::left(set, begins, table, n, b, next, e);
         return Turn {
             bucket: b,
             view: View {
                 oldest: next,
                 next: e,
-                nonempty: held.nonempty,
-                large: held.large,
+                nonempty: p.nonempty,
+                large,
             },
         };
     }
+    let large = large::left(set, begins, table, n, b, o, e);
     Turn {
         bucket: b,
         view: View {
             oldest: o,
             next: e,
-            nonempty: held.nonempty,
-            large: held.large,
+            nonempty: p.nonempty,
+            large,
         },
     }
 }

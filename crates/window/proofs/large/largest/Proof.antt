@@ -28,10 +28,10 @@ abbrev μ-loop : tie.MeasureT-loop
 
 module _ (s : tie.Start Inv-loop μ-loop) where
   back-6 : toZ w64 (ofZ w64 (getD (now (s .args .table)) 6 (pos 0))) ≡ getD (now (s .args .table)) 6 (pos 0)
-  back-6 = toZ-ofZ (small-fits (getD (now (s .args .table)) 6 (pos 0)) (omega (arith, s .pre .sixth)))
+  back-6 = toZ-ofZ (small-fits (getD (now (s .args .table)) 6 (pos 0)) (omega (arith, s .pre .measured .sixth)))
 
   back-7 : toZ w64 (ofZ w64 (getD (now (s .args .table)) 7 (pos 0))) ≡ getD (now (s .args .table)) 7 (pos 0)
-  back-7 = toZ-ofZ (small-fits (getD (now (s .args .table)) 7 (pos 0)) (omega (arith, s .pre .seventh)))
+  back-7 = toZ-ofZ (small-fits (getD (now (s .args .table)) 7 (pos 0)) (omega (arith, s .pre .measured .seventh)))
 
 element-copy-out-w6 : tie.Need-element-copy-out-w6 Inv-loop μ-loop
 element-copy-out-w6 c = search needs
@@ -42,7 +42,7 @@ element-copy-out-w7 c = search needs
 first-in-requires : tie.Need-first-in-requires Inv-loop μ-loop
 first-in-requires c κs =
     let s = c .before .before .before in
-    ((s .pre .range .0, (s .pre .range .1, omega (arith, s .pre .low))), s .pre .slots)
+    ((s .pre .range .0, (s .pre .range .1, omega (arith, s .pre .measured .low))), s .pre .slots)
 
 loop-holds : tie.Need-loop-holds Inv-loop μ-loop
 unfolding lowest
@@ -53,24 +53,24 @@ loop-holds c =
 size-of-requires : tie.Need-size-of-requires Inv-loop μ-loop
 size-of-requires c κs =
     let s = c .before .before .before .before .before .before in
-    record { placed = omega (arith, s .pre .long, c .loop-test .taken); rises = s .pre .rises (c .before .loop .b) (c .loop-test .taken) }
+    record { placed = omega (arith, s .pre .measured .long, c .loop-test .taken); rises = s .pre .measured .rises (c .before .loop .b) (c .loop-test .taken) }
 
 better-requires : tie.Need-better-requires Inv-loop μ-loop
 better-requires c κs =
     let s = c .before .before .before .before .before .before .before in
     let l = c .before .loop-test .taken in
-    simp (back-6 s, back-7 s) ((s .pre .sixth, s .pre .seventh), (omega (arith, c .size-of .ensures .0, s .pre .sizes (c .before .before .loop .b) l), omega (arith, l, s .pre .low)))
+    simp (back-6 s, back-7 s) ((s .pre .measured .sixth, s .pre .measured .seventh), (omega (arith, c .size-of .ensures .0, s .pre .measured .sizes (c .before .before .loop .b) l), omega (arith, l, s .pre .measured .low)))
 
 add-first-in : tie.Need-add-first-in Inv-loop μ-loop
 add-first-in c =
     let s = c .before .before .before .before .before .before .before .before in
-    omega (arith, c .before .before .loop-test .taken, s .pre .low)
+    omega (arith, c .before .before .loop-test .taken, s .pre .measured .low)
 
 first-in-requires-2 : tie.Need-first-in-requires-2 Inv-loop μ-loop
 first-in-requires-2 c κs =
     let s = c .before .before .before .before .before .before .before .before in
     let l = c .before .before .loop-test .taken in
-    ((omega (arith, l), (omega (arith, s .pre .range, c .before .before .before .loop .inv .from), omega (arith, s .pre .low))), s .pre .slots)
+    ((omega (arith, l), (omega (arith, s .pre .range, c .before .before .before .loop .inv .from), omega (arith, s .pre .measured .low))), s .pre .slots)
 
 loop-less : tie.Need-loop-less Inv-loop μ-loop
 loop-less c = omega (arith, c .before .before .before .loop-test .taken, c .first-in2 .ensures .from)

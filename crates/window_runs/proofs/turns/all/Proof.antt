@@ -24,7 +24,7 @@ loop-holds : tie.Need-loop-holds Inv-loop μ-loop
 loop-holds c = c .before .pre
 
 refill-requires : tie.Need-refill-requires Inv-loop μ-loop
-refill-requires c κs = c .before .before .before .before .before .before .before .loop .inv
+refill-requires c κs = c .before .before .before .before .before .before .loop .inv
 
 is-empty-requires : tie.Need-is-empty-requires Inv-loop μ-loop
 is-empty-requires c κs = search needs
@@ -34,24 +34,24 @@ returns c = search needs
 
 take-requires : tie.Need-take-requires Inv-loop μ-loop
 take-requires c κs =
-    let d = c .before .before .before .before .before .before .before .before .before .before .before .before .before .before .before .before .loop .inv in (
-      record { i = d .i; lo = d .lo; k = d .k; ranged = d .ranged; full = c .before .before .before .before .before .before .before .before .refill .ensures (d .i) (d .lo) (d .k) (d .ranged) (d .windowed) },
-      not-empty (c .before .before .before .before .before .before .before .before .refill .result .nonempty) (c .before .before .before .before .before .before .before .before .refill .result .large) (sym (c .before .before .before .before .before .before .before .is-empty .ensures .0) ∙ c .before .before .before .before .before .before .if1 .left),
+    let d = c .before .before .before .before .before .before .before .before .before .before .before .before .before .before .loop .inv in (
+      record { i = d .i; lo = d .lo; k = d .k; ranged = d .ranged; full = c .before .before .before .before .before .before .before .refill .ensures (d .i) (d .lo) (d .k) (d .ranged) (d .windowed) },
+      not-empty (c .before .before .before .before .before .before .before .refill .result .nonempty) (c .before .before .before .before .before .before .before .refill .result .large) (sym (c .before .before .before .before .before .before .is-empty .ensures .0) ∙ c .before .before .before .before .before .if1 .left),
     )
 
 put-requires : tie.Need-put-requires Inv-loop μ-loop
 put-requires c κs = search needs
 
 add-turn : tie.Need-add-turn Inv-loop μ-loop
-add-turn c = omega (arith, c .before .before .before .before .before .before .before .before .before .before .before .before .before .before .before .before .before .before .loop-test .taken, c .before .before .before .before .before .before .before .before .before .before .before .before .before .before .before .before .before .before .before .before .before .fits .hi .fits)
+add-turn c = omega (arith, c .before .before .before .before .before .before .before .before .before .before .before .before .before .before .before .before .loop-test .taken, c .before .before .before .before .before .before .before .before .before .before .before .before .before .before .before .before .before .before .before .fits .hi .fits)
 
 loop-less : tie.Need-loop-less Inv-loop μ-loop
-loop-less c = omega (arith, c .before .before .before .before .before .before .before .before .before .before .before .before .before .before .before .before .before .before .loop-test .taken)
+loop-less c = omega (arith, c .before .before .before .before .before .before .before .before .before .before .before .before .before .before .before .before .loop-test .taken)
 
 loop-again : tie.Need-loop-again Inv-loop μ-loop
 loop-again c =
-    let d = c .before .before .before .before .before .before .before .before .before .before .before .before .before .before .before .before .before .before .before .loop .inv in
-    let t = c .before .before .take .ensures .0 (d .i) (d .lo) (d .k) (d .ranged) (c .before .before .before .before .before .before .before .before .before .before .before .refill .ensures (d .i) (d .lo) (d .k) (d .ranged) (d .windowed)) in
+    let d = c .before .before .before .before .before .before .before .before .before .before .before .before .before .before .before .before .before .loop .inv in
+    let t = c .before .before .take .ensures .0 (d .i) (d .lo) (d .k) (d .ranged) (c .before .before .before .before .before .before .before .before .before .before .refill .ensures (d .i) (d .lo) (d .k) (d .ranged) (d .windowed)) in
     record { i = d .i; lo = d .lo; k = d .k + 1; ranged = d .ranged; windowed = t .windowed }
 
 returns-2 : tie.Need-returns-2 Inv-loop μ-loop

@@ -13,8 +13,8 @@ weight-table-requires c κs = search needs
 
 all-requires : tie.Need-all-requires
 all-requires c κs =
-    let s = c .before .before .before .before .before .before .before .before .before in
-    begun (s .args .weights) (now (s .args .begins)) (c .before .before .before .before .before .before .before .weight-table .result) (s .args .lo) (s .args .hi) (s .pre .0) (s .pre .1 .0) (c .before .before .before .before .before .before .before .weight-table .ensures) (s .pre .1 .1 .0) (s .pre .1 .1 .1)
+    let s = c .before .before .before .before .before .before .before .before in
+    begun (s .args .weights) (now (s .args .begins)) (c .before .before .before .before .before .before .weight-table .result) (s .args .lo) (s .args .hi) (s .pre .0) (s .pre .1 .0) (c .before .before .before .before .before .before .weight-table .ensures) (s .pre .1 .1 .0) (s .pre .1 .1 .1)
 
 returns : tie.Need-returns
 returns c = search needs
