@@ -1,6 +1,6 @@
 use borrow.Author.Needs.{needs}
-use mathlib.Core.Path.{_≡_, sym, ap, ap₂, _∙_}
-use Prim.Native.Nat.{ℕ, _+_, _-_, _<_, _≤_}
+use mathlib.Core.Path.{_≡_, ap, ap₂, _∙_}
+use Prim.Native.Nat.{ℕ, _-_, _<_}
 use native.Mathlib.Omega.{arith}
 use denote.Ref.{now}
 use lib.IntN.{ℤ, pos}
@@ -9,7 +9,6 @@ use mir.Syntax.{w64}
 use mir.Val.{toZ, ofZ}
 use mir.Facts.{toZ-ofZ}
 use Rattle.integers.specs.Ints.{small-fits}
-use Rattle.groups.specs.Groups.{sizeIn}
 use Rattle.window.specs.Large.{lowest, betterOf}
 use Rattle.window.proofs.LargeLaws.{Scanned, start, step, ended}
 use Rattle.window.proofs.large.largest.Statement.{statement}
@@ -53,12 +52,12 @@ loop-holds c =
 size-of-requires : tie.Need-size-of-requires Inv-loop μ-loop
 size-of-requires c κs =
     let s = c .before .before .before .before .before .before in
-    record { placed = omega (arith, s .pre .measured .long, c .loop-test .taken); rises = s .pre .measured .rises (c .before .loop .b) (c .loop-test .taken) }
+    record { placed = omega (arith, s .pre .measured .long, c .loop-test .taken); rises = s .pre .measured .rises (c .before .loop .b) (omega (arith, c .loop-test .taken)) }
 
 better-requires : tie.Need-better-requires Inv-loop μ-loop
 better-requires c κs =
     let s = c .before .before .before .before .before .before .before in
-    let l = c .before .loop-test .taken in
+    let l : c .before .before .loop .b < s .args .e = omega (arith, c .before .loop-test .taken) in
     simp (back-6 s, back-7 s) ((s .pre .measured .sixth, s .pre .measured .seventh), (omega (arith, c .size-of .ensures .0, s .pre .measured .sizes (c .before .before .loop .b) l), omega (arith, l, s .pre .measured .low)))
 
 add-first-in : tie.Need-add-first-in Inv-loop μ-loop
@@ -79,7 +78,7 @@ loop-again : tie.Need-loop-again Inv-loop μ-loop
 loop-again c =
     let s = c .before .before .before .before .before .before .before .before .before in
     let l = c .before .before .before .before .loop in
-    step (now (s .args .set)) (now (s .args .begins)) (now (s .args .table)) (s .args .o) (s .args .e) (s .pre) (l .b) (l .best) (l .inv) (c .before .before .before .loop-test .taken) (c .before .better .result) (c .first-in2 .result)
+    step (now (s .args .set)) (now (s .args .begins)) (now (s .args .table)) (s .args .o) (s .args .e) (s .pre) (l .b) (l .best) (l .inv) (omega (arith, c .before .before .before .loop-test .taken)) (c .before .better .result) (c .first-in2 .result)
     (c .before .better .ensures ∙ ap₂ (λ (u v : ℤ). betterOf u v (l .best) (c .before .before .size-of .result) (l .b)) (back-6 s) (back-7 s) ∙ ap (λ (n : ℕ). betterOf (getD (now (s .args .table)) 6 (pos 0)) (getD (now (s .args .table)) 7 (pos 0)) (l .best) n (l .b)) (c .before .before .size-of .ensures .0))
     (c .first-in2 .ensures)
 
