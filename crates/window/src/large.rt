@@ -1,9 +1,9 @@
 ghost use mathlib.Core.Path.{_≡_};
 ghost use Prim.Native.Nat.{_+_, _-_, _≤_, _<_, _^_};
 ghost use lib.IntN.{natAbs};
+ghost use lib.ListN.{length};
 ghost use Rattle.groups.specs.Groups.{sizeIn};
 ghost use Rattle.window.specs.Large.{keyIn, betterOf, firstOf, Measured, Searched, Told, Largest, Left};
-use crate::cyclic;
 use crate::rule;
 
 // The buckets of 64 keys and more. No queue has them: the window knows the one of them that goes first, and once that is
@@ -15,13 +15,17 @@ pub struct Best {
     pub key: i64,
 }
 
-// The better of `best` and bucket `b` of `size` keys, where that has 64 and more.
-fn better(w6: i64, w7: i64, best: Best, size: usize, b: usize) -> Best
+// The better of `best` and bucket `b` of `size` keys, where that has 64 and more and is in the set.
+fn better(set: &[u64; 16], w6: i64, w7: i64, best: Best, size: usize, b: usize) -> Best
+    requires { ⌜ length (now set) ≡ 16 ⌝ }
     requires { ⌜ (natAbs w6 ≤ 2 ^ 32) × (natAbs w7 ≤ 2 ^ 32) ⌝ }
     requires { ⌜ (size ≤ 4096) × (b < 134217728) ⌝ }
-    ensures { λ r. ⌜ r ≡ betterOf w6 w7 best size b ⌝ }
+    ensures { λ r. ⌜ r ≡ betterOf (now (set .entry)) w6 w7 best size b ⌝ }
 {
     if size < 64 {
+        return best;
+    }
+    if !words::is_occupied(set, b % 1024) {
         return best;
     }
     let w = rule::beyond(w6, w7, size);
@@ -43,11 +47,11 @@ fn largest(set: &[u64; 16], begins: &[u32], table: &[i64; 64], o: usize, e: usiz
         bucket: e,
         key: -4611686018427387904,
     };
-    let mut b = cyclic::first_in(set, o, e);
+    let mut b = o;
     while b < e {
         let size = groups::size_of(begins, b);
-        best = better(w6, w7, best, size, b);
-        b = cyclic::first_in(set, b + 1, e);
+        best = better(set, w6, w7, best, size, b);
+        b += 1;
     }
     best
 }

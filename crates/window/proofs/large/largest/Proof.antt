@@ -16,7 +16,6 @@ use Rattle.window.proofs.large.largest.Tie as tie
 use Rattle.window.proofs.large.largest.Reads as reads
 use Rattle.window.proofs.large.largest.Lts as lts
 use Rattle.groups.proofs.size_of.Reads as size-of-reads
-use Rattle.window.proofs.cyclic.first_in.Reads as first-in-reads
 use Rattle.window.proofs.large.better.Reads as better-reads
 
 abbrev Inv-loop : tie.InvT-loop
@@ -38,53 +37,39 @@ element-copy-out-w6 c = search needs
 element-copy-out-w7 : tie.Need-element-copy-out-w7 Inv-loop μ-loop
 element-copy-out-w7 c = search needs
 
-first-in-requires : tie.Need-first-in-requires Inv-loop μ-loop
-first-in-requires c κs =
-    let s = c .before .before .before in
-    ((s .pre .range .0, (s .pre .range .1, omega (arith, s .pre .measured .low))), s .pre .slots)
-
 loop-holds : tie.Need-loop-holds Inv-loop μ-loop
 unfolding lowest
-loop-holds c =
-    let s = c .before .before .before .before in
-    start (now (s .args .set)) (now (s .args .begins)) (now (s .args .table)) (s .args .o) (s .args .e) (c .first-in .result) (c .first-in .ensures)
+loop-holds c = let s = c .before .before .before in start (now (s .args .set)) (now (s .args .begins)) (now (s .args .table)) (s .args .o) (s .args .e) (s .pre .range .0)
 
 size-of-requires : tie.Need-size-of-requires Inv-loop μ-loop
 size-of-requires c κs =
-    let s = c .before .before .before .before .before .before in
+    let s = c .before .before .before .before .before in
     record { placed = omega (arith, s .pre .measured .long, c .loop-test .taken); rises = s .pre .measured .rises (c .before .loop .b) (omega (arith, c .loop-test .taken)) }
 
 better-requires : tie.Need-better-requires Inv-loop μ-loop
 better-requires c κs =
-    let s = c .before .before .before .before .before .before .before in
+    let s = c .before .before .before .before .before .before in
     let l : c .before .before .loop .b < s .args .e = omega (arith, c .before .loop-test .taken) in
-    simp (back-6 s, back-7 s) ((s .pre .measured .sixth, s .pre .measured .seventh), (omega (arith, c .size-of .ensures .0, s .pre .measured .sizes (c .before .before .loop .b) l), omega (arith, l, s .pre .measured .low)))
+    simp (back-6 s, back-7 s)
+    (s .pre .slots, ((s .pre .measured .sixth, s .pre .measured .seventh), (omega (arith, c .size-of .ensures .0, s .pre .measured .sizes (c .before .before .loop .b) l), omega (arith, l, s .pre .measured .low))))
 
-add-first-in : tie.Need-add-first-in Inv-loop μ-loop
-add-first-in c =
-    let s = c .before .before .before .before .before .before .before .before in
-    omega (arith, c .before .before .loop-test .taken, s .pre .measured .low)
-
-first-in-requires-2 : tie.Need-first-in-requires-2 Inv-loop μ-loop
-first-in-requires-2 c κs =
-    let s = c .before .before .before .before .before .before .before .before in
-    let l = c .before .before .loop-test .taken in
-    ((omega (arith, l), (omega (arith, s .pre .range, c .before .before .before .loop .inv .from), omega (arith, s .pre .measured .low))), s .pre .slots)
+add-b : tie.Need-add-b Inv-loop μ-loop
+add-b c = omega (arith, c .before .before .loop-test .taken, c .before .before .before .before .before .before .before .pre .measured .low)
 
 loop-less : tie.Need-loop-less Inv-loop μ-loop
-loop-less c = omega (arith, c .before .before .before .loop-test .taken, c .first-in2 .ensures .from)
+loop-less c = omega (arith, c .before .before .loop-test .taken)
 
 loop-again : tie.Need-loop-again Inv-loop μ-loop
 loop-again c =
-    let s = c .before .before .before .before .before .before .before .before .before in
-    let l = c .before .before .before .before .loop in
-    step (now (s .args .set)) (now (s .args .begins)) (now (s .args .table)) (s .args .o) (s .args .e) (s .pre) (l .b) (l .best) (l .inv) (omega (arith, c .before .before .before .loop-test .taken)) (c .before .better .result) (c .first-in2 .result)
-    (c .before .better .ensures ∙ ap₂ (λ (u v : ℤ). betterOf u v (l .best) (c .before .before .size-of .result) (l .b)) (back-6 s) (back-7 s) ∙ ap (λ (n : ℕ). betterOf (getD (now (s .args .table)) 6 (pos 0)) (getD (now (s .args .table)) 7 (pos 0)) (l .best) n (l .b)) (c .before .before .size-of .ensures .0))
-    (c .first-in2 .ensures)
+    let s = c .before .before .before .before .before .before .before in
+    let l = c .before .before .before .loop in
+    step (now (s .args .set)) (now (s .args .begins)) (now (s .args .table)) (s .args .o) (s .args .e) (s .pre) (l .b) (l .best) (l .inv) (omega (arith, c .before .before .loop-test .taken)) (c .better .result)
+    (c .better .ensures ∙ ap₂ (λ (u v : ℤ). betterOf (now (s .args .set)) u v (l .best) (c .before .size-of .result) (l .b)) (back-6 s) (back-7 s)
+    ∙ ap (λ (n : ℕ). betterOf (now (s .args .set)) (getD (now (s .args .table)) 6 (pos 0)) (getD (now (s .args .table)) 7 (pos 0)) (l .best) n (l .b)) (c .before .size-of .ensures .0))
 
 returns : tie.Need-returns Inv-loop μ-loop
 returns c =
-    let s = c .before .before .before .before .before .before in
+    let s = c .before .before .before .before .before in
     let l = c .before .loop in
     ended (now (s .args .set)) (now (s .args .begins)) (now (s .args .table)) (s .args .o) (s .args .e) (l .b) (l .best) (l .inv) (omega (arith, c .loop-test .left))
 
@@ -96,12 +81,10 @@ largest-spec =
     μ-loop
     element-copy-out-w6
     element-copy-out-w7
-    first-in-requires
     loop-holds
     size-of-requires
     better-requires
-    add-first-in
-    first-in-requires-2
+    add-b
     loop-less
     loop-again
     returns)
