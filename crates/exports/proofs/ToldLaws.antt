@@ -1,7 +1,6 @@
 -- The number told is that of the first line that applies, and for a sweep that passed them all 14 or 0. So 0 tells that the call is done, and nothing else
 -- does. Each holds by the cases of the number. Assumes nothing.
 use mathlib.Core.Path.{_≡_, refl}
-use mathlib.Core.Bool.{Bool}
 use mathlib.Core.List.{List}
 use mathlib.Core.Option.{Option, none, some}
 use Prim.Native.Nat.{ℕ, zero, suc}
@@ -9,6 +8,7 @@ use native.Mathlib.Omega.{arith}
 use lib.Ieee.{Float}
 use lib.ListN.{length}
 use Rattle.rules.specs.declared.Settings.{Settings}
+use Rattle.rules.specs.declared.How.{How}
 use Rattle.rules.specs.declared.Counts.{Counts}
 use Rattle.rules.specs.Order.{Input, Tie}
 use Rattle.rules.specs.Sweep.{finalSeeds}
@@ -39,7 +39,7 @@ told-ran zero none counts e = (refl, refl)
 told-ran zero (some b) counts e = absurd (omega arith)
 told-ran (suc n) stop counts e = absurd (omega arith)
 
-pub sweep-told : (tie : Tie) (bump : Bool) (i : Input) (lent : Lent)
-    → numberTold (sweepAnswer tie bump i lent) ≡ 0 → (sweepNumber i lent ≡ 0) × (stopsAt tie bump i ≡ none)
+pub sweep-told : (tie : Tie) (how : How) (i : Input) (lent : Lent)
+    → numberTold (sweepAnswer tie how i lent) ≡ 0 → (sweepNumber how i lent ≡ 0) × (stopsAt tie how i ≡ none)
 unfolding sweepAnswer
-sweep-told tie bump i lent e = told-ran (sweepNumber i lent) (stopsAt tie bump i) (countsOf i (finalSeeds i (sweepTurns tie i))) e
+sweep-told tie how i lent e = told-ran (sweepNumber how i lent) (stopsAt tie how i) (countsOf i (finalSeeds i (sweepTurns tie (how .chunks) i))) e

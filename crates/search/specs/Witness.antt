@@ -2,6 +2,7 @@
 -- slot marked yet; rule S's seed is then 4. Assumes nothing.
 use mathlib.Core.Path.{_≡_, refl}
 use mathlib.Core.List.{List, [], _∷_}
+use mathlib.Core.Bool.{true}
 use Prim.Native.Nat.{ℕ, zero, suc, _+_, _^_, _≤_, _<_}
 use native.Mathlib.Omega.{arith}
 use lib.Dec.{lit<, lit≤}
@@ -14,7 +15,7 @@ use Rattle.rules.specs.Numbers.{firstOf, sweepLines, bitmapWords}
 use Rattle.rules.specs.Good.{Sound}
 use Rattle.rules.proofs.InputLaws.{passes}
 use Rattle.rules.proofs.CheckLaws.{good-usable}
-use Rattle.rules.proofs.Sheets.{table, small, lentFor, runs}
+use Rattle.rules.proofs.Sheets.{inOne, table, small, lentFor, runs}
 use Rattle.geometry.specs.Shape.{geometryOf}
 use Rattle.geometry.proofs.Sizes.{made}
 use Rattle.rings.specs.Level.{levelRing}
@@ -27,12 +28,12 @@ use Rattle.search.specs.MarksLaws.{marks-none}
 unfoldable pub two : Input
 two = small 7 4 (0 ∷ (2 ^ 62 + 3) ∷ [])
 
-two-passes : firstOf (sweepLines two (lentFor two)) ≡ 0
+two-passes : firstOf (sweepLines (inOne true) two (lentFor two)) ≡ 0
 unfolding two small table runs
 two-passes = refl
 
 two-sound : Sound two
-two-sound = passes two (lentFor two) two-passes .sound
+two-sound = passes two (inOne true) (lentFor two) two-passes .sound
 
 zeros : (n k : ℕ) → _≡_ {A = ℕ} (getD (replicate n 0) k 0) 0
 zeros zero k = refl
