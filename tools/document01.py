@@ -1,10 +1,12 @@
-"""Document 01 word by word: rules G, W and S with every candidate tried against a set of taken slots, the numbers, and the program."""
+"""Document 01 word by word: rules G, W and S with every candidate tried against a set of taken slots, the numbers, and the program; and
+of document 02 the ranges of a sweep in chunks."""
 from collections import namedtuple
 from decimal import Decimal, getcontext
-from itertools import accumulate, chain
+from itertools import accumulate, chain, takewhile
 
 getcontext().prec = 40
 Settings = namedtuple("Settings", "m slice ll sb buckets")
+How = namedtuple("How", "bump chunks")
 WORD = 2**64
 
 HOUSE = [0] + [round(2**24 * Decimal(d).ln() / Decimal(2).ln()) for d in range(1, 2048)]
@@ -56,13 +58,23 @@ def weight(weights, size):
     return max(-(2**40), min(2**40, (weights[6] - weights[5]) * (size - 7) + weights[6]))
 
 
-def turns(weights, sizes):
-    left = [b for b, size in enumerate(sizes) if size]
+def turns(weights, sizes, lo, hi):
+    left = [b for b in range(lo, hi) if sizes[b]]
     while left:
-        window = [b for b in left if b < left[0] + 256]
+        window = takewhile(lambda b: b < left[0] + 256, left)
         b = min(window, key=lambda b: (1024 * b - weight(weights, sizes[b]), b % 1024))
         left.remove(b)
         yield b
+
+
+# 1/14: the ranges that are swept one after another
+def ranges(g, c):
+    gap = g.l * g.s.buckets // g.ns + 1
+    chunks = max(1, min(c, g.s.buckets // max(64 * gap, 4096)))
+    bounds = [i * g.s.buckets // chunks for i in range(chunks + 1)]
+    inner = bounds[1:-1]
+    ends = [end - gap for end in inner] + [g.s.buckets]
+    return list(zip(bounds, ends)) + [(end - gap, end) for end in inner]
 
 
 # S
@@ -79,14 +91,15 @@ def seed_of(g, b, keys, table, taken):
     return min(found)[3] if found else 0
 
 
-def sweep(g, weights, bump, groups, table):
+def sweep(g, weights, how, groups, table):
     """The bucket that 14 names, or None; the seeds; the taken slots."""
     seeds, taken = [0] * len(groups), set()
-    for b in turns(weights, [len(keys) for keys in groups]):
+    sizes = [len(keys) for keys in groups]
+    for b in chain(*(turns(weights, sizes, lo, hi) for lo, hi in ranges(g, how.chunks))):
         seeds[b] = seed_of(g, b, groups[b], table, taken)
         if seeds[b]:
             taken.update(g.position(h, seeds[b]) for h in groups[b])
-        elif not bump:
+        elif not how.bump:
             return b, [0] * len(groups), set()
     return None, seeds, taken
 
@@ -114,13 +127,15 @@ def number_to_7(s):
     return 7 if Geometry(s).p > 4096 else 0
 
 
-# the numbers 1 to 13, or 0
-def number(s, weights, hashes, begins, table, seeds, bitmap, work):
+# the numbers 1 to 8, 20 and 9 to 13, or 0
+def number(s, weights, how, hashes, begins, table, seeds, bitmap, work):
     if number_to_7(s):
         return number_to_7(s)
     g = Geometry(s)
     if any(abs(w) > 2**32 for w in weights):
         return 8
+    if how.chunks == 0:
+        return 20
     if len(begins) != s.buckets + 1 or begins[0] != 0 or begins != sorted(begins) or begins[-1] != len(hashes):
         return 9
     if len(hashes) > 67_108_864:
@@ -177,15 +192,16 @@ def listing(data):
     if asked is None:
         return "refused 18\n"
     s, weights, bump, groups = asked
+    how = How(bump, 1)
     hashes, begins = list(chain(*groups)), [0, *accumulate(map(len, groups))]
     if s.m > 1024 or s.buckets > 64 or len(hashes) > 128:
         return "refused 19\n"
     if not number_to_7(s) and Geometry(s).work(max(map(len, groups))) > 8192:
         return "refused 19\n"
-    said = number(s, weights, hashes, begins, HOUSE, s.buckets, -(-s.m // 64), 8192)
+    said = number(s, weights, how, hashes, begins, HOUSE, s.buckets, -(-s.m // 64), 8192)
     if said:
         return f"refused {said}\n"
-    stopped, seeds, taken = sweep(Geometry(s), weights, bump, groups, HOUSE)
+    stopped, seeds, taken = sweep(Geometry(s), weights, how, groups, HOUSE)
     if stopped is not None:
         return f"refused 14 {stopped}\n"
     holes = [i for i in range(s.m) if i not in taken]

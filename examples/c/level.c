@@ -1,5 +1,6 @@
 /*
- * Two levels by way of the library: document 01's listing, and some thousand generated keys.
+ * Levels by way of the library: document 01's listing, some thousand generated keys, and some more in two
+ * chunks.
  *
  *   folder=$(tools/library)
  *   cc -std=c99 -Wall -Wextra -Werror -Iinclude examples/c/level.c "$folder/libexports.a" -o level
@@ -69,7 +70,7 @@ static void group(struct level *level) {
 }
 
 /* Finds out what the sweep wants lent, lends it, and sweeps. */
-static void sweep(struct level *level, const int64_t weights[7]) {
+static void sweep(struct level *level, const int64_t weights[7], uint64_t chunks) {
     const struct settings s = level->s;
     uint64_t sizes[3] = {0}, bucket = 0, number;
     number = phastr_sizes(s.m, s.log2_slice_len, s.ll, s.sb, s.buckets, level->largest, sizes);
@@ -81,10 +82,11 @@ static void sweep(struct level *level, const int64_t weights[7]) {
     uint64_t *work = room(sizes[0], sizeof *work);
     uint32_t *table = room(PHASTR_HOUSE_ENTRIES, sizeof *table);
     phastr_house_table(table);
-    number = phastr_sweep(s.m, s.log2_slice_len, s.ll, s.sb, s.buckets, weights, true, level->hashes,
-                          (size_t)level->keys, level->begins, (size_t)s.buckets + 1, table,
-                          PHASTR_HOUSE_ENTRIES, level->seeds, (size_t)s.buckets, level->bitmap,
-                          (size_t)sizes[2], work, (size_t)sizes[0], level->counts, &bucket);
+    number = phastr_sweep(s.m, s.log2_slice_len, s.ll, s.sb, s.buckets, weights, true, chunks,
+                          level->hashes, (size_t)level->keys, level->begins, (size_t)s.buckets + 1,
+                          table, PHASTR_HOUSE_ENTRIES, level->seeds, (size_t)s.buckets,
+                          level->bitmap, (size_t)sizes[2], work, (size_t)sizes[0], level->counts,
+                          &bucket);
     if (number != PHASTR_OK)
         fail("sweep", number);
     free(table);
@@ -142,7 +144,7 @@ static void listing(void) {
     for (int i = 0; i < 3; i++)
         level.hashes[i] = keys[i];
     group(&level);
-    sweep(&level, weights);
+    sweep(&level, weights, 1);
     print_list(&level);
     let_go(&level);
 }
@@ -184,8 +186,8 @@ static uint64_t look_up_all(const struct level *level) {
     return bumped;
 }
 
-/* Some thousand keys at PHastR's defaults: as many slots as keys, buckets of 4.25 keys. */
-static void generated(uint64_t keys) {
+/* Keys at PHastR's defaults: as many slots as keys, buckets of 4.25 keys. */
+static void generated(uint64_t keys, uint64_t chunks) {
     static const int64_t weights[7] = {-52000, 53315, 105861, 138629, 156944, 175176, 186591};
     struct level level = {.s = {keys, 10, 2, 8, 0}, .keys = keys};
     uint64_t number = phastr_bucket_count(10, keys, 4.25, &level.s.buckets), count = 0;
@@ -195,7 +197,7 @@ static void generated(uint64_t keys) {
     for (uint64_t i = 0; i < keys; i++)
         level.hashes[i] = spread(i + 1);
     group(&level);
-    sweep(&level, weights);
+    sweep(&level, weights, chunks);
     free(holes(&level, &count));
     uint64_t bumped = look_up_all(&level);
     if (bumped != level.counts[1] || level.counts[0] + bumped != keys || count != bumped)
@@ -218,8 +220,10 @@ static void refused(void) {
 
 int main(void) {
     listing();
-    generated(1);
-    generated(5000);
+    generated(1, 1);
+    generated(5000, 1);
+    generated(150000, 1);
+    generated(150000, 2);
     refused();
     return 0;
 }

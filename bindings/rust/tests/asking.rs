@@ -1,7 +1,7 @@
 //! The refusals of the calls beside the sweep, each met and just missed, and owned levels.
 
 use phastr::lent;
-use phastr::{BUMPED, Builder, Error, Groups, Level, Settings, default_weights, log_table};
+use phastr::{BUMPED, Builder, Error, Groups, How, Level, Settings, default_weights, log_table};
 
 /// Settings that pass, of three buckets.
 const SOUND: Settings =
@@ -199,6 +199,8 @@ fn builders_refuse() {
     assert_eq!(b().buckets(24).sweep(keys()), Err(Error::Buckets));
     assert_eq!(b().buckets(1).slots(1 << 27).sweep(keys()), Err(Error::SlicesPerBucket));
     assert_eq!(b().weights([1 << 33; 7]).sweep(keys()), Err(Error::Weights));
+    assert_eq!(b().chunks(0).sweep(keys()), Err(Error::Chunks));
+    assert_eq!(b().chunks(u64::MAX).sweep(keys()), b().sweep(keys()));
     assert_eq!(b().buckets(1).sweep(hashes(4097)), Err(Error::LargeBucket));
     assert_eq!(b().bucket_size(0.5).sweep(keys()), Err(Error::BucketSize));
     assert_eq!(b().sweep(vec![0; 67_108_865]), Err(Error::Keys));
@@ -210,7 +212,7 @@ fn builders_refuse() {
 fn levels_of_parts_are_checked() {
     let sweep = |hashes: &[u64], begins: &[u32]| {
         let groups = Groups::from_parts(hashes.to_vec(), begins.to_vec());
-        Level::sweep(SOUND, default_weights(4), true, &groups)
+        Level::sweep(SOUND, default_weights(4), How::default(), &groups)
     };
     assert_eq!(sweep(&[0, 1], &[0, 2]), Err(Error::Begins));
     assert_eq!(sweep(&[0, 1], &[0, 2, 1, 2]), Err(Error::Begins));

@@ -2,7 +2,7 @@
 
 mod common;
 
-use common::{Case, case, listing, settings};
+use common::{Case, FORBIDDEN, case, listing, settings};
 use phastr::{Builder, Counts, Error, Groups, Level, Settings, lent};
 
 /// Holds a sweep to its seeds, marked slots (bits of one word) and counts, and its holes to the rest.
@@ -66,7 +66,7 @@ fn p5_equal_hashes() {
     let p5 = case(settings(7, 4, 1), &[&[0, 0]]);
     comes_to(&p5, &[0], 0, [0, 2, 1]);
     assert_eq!(slots(&p5, &[0, 1, u64::MAX]), [None; 3]);
-    let forbidden = Case { bump: false, ..p5 }.sweep();
+    let forbidden = Case { how: FORBIDDEN, ..p5 }.sweep();
     assert_eq!(forbidden.answer, Err(Error::NoSeed { bucket: 0 }));
 }
 

@@ -86,17 +86,7 @@ pub extern "C" fn phastr_sweep(
         bump: bump,
         chunks: chunks,
     };
-    let record = sweep(
-        s,
-        *weights,
-        how,
-        hashes,
-        begins,
-        table,
-        seeds,
-        bitmap,
-        work,
-    );
+    let record = sweep(s, *weights, how, hashes, begins, table, seeds, bitmap, work);
     let outcome = record.outcome;
     tell(outcome, counts, bucket)
 }

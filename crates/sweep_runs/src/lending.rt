@@ -1,5 +1,6 @@
 // One case: buffers full of rubbish are lent to a sweep, and what is in them afterwards is written.
 ghost use Prim.Native.Nat.{_≤_, _<_};
+use rules::How;
 use rules::Named;
 use rules::Outcome;
 use rules::Settings;
@@ -107,6 +108,14 @@ fn run(
     put(bitmap.len() as u64);
     put(work.len() as u64);
     put_record(sweep::sweep(s, weights, how, hashes, begins, table, seeds, bitmap, work));
+}
+
+// In one chunk.
+pub fn in_one(bump: bool) -> How {
+    How {
+        bump: bump,
+        chunks: 1,
+    }
 }
 
 // One case, with so many entries of the table, and buffers of these lengths.
