@@ -41,6 +41,9 @@ impl Named {
         let f = figures(&self.family(10_000).settings);
         let (slice, layouts, bits) = (f.slice_len, f.layouts, self.setting.2);
         let chunks = if self.chunks == 1 { "" } else { ", in chunks" };
-        format!("slices of {slice}, {layouts} layouts, {bits}-bit seeds: rings of {}{chunks}", f.ring_len)
+        format!(
+            "slices of {slice}, {layouts} layouts, {bits}-bit seeds: rings of {}{chunks}",
+            f.ring_len
+        )
     }
 }

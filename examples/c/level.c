@@ -202,9 +202,9 @@ static void generated(uint64_t keys, uint64_t chunks) {
     uint64_t bumped = look_up_all(&level);
     if (bumped != level.counts[1] || level.counts[0] + bumped != keys || count != bumped)
         fail("counts", bumped);
-    printf("%" PRIu64 " keys in %" PRIu64 " buckets: %" PRIu64 " placed, %" PRIu64
+    printf("%" PRIu64 " keys in %" PRIu64 " buckets, %" PRIu64 " chunks: %" PRIu64 " placed, %" PRIu64
            " bumped, %" PRIu64 " buckets of seed 0, %" PRIu64 " holes\n",
-           keys, level.s.buckets, level.counts[0], bumped, level.counts[2], count);
+           keys, level.s.buckets, chunks, level.counts[0], bumped, level.counts[2], count);
     let_go(&level);
 }
 

@@ -56,7 +56,10 @@ pub fn ranges(s: &Settings, chunks: usize) -> Vec<Range<usize>> {
 
 /// The order, by rule W within each range.
 pub fn order(case: &Case) -> Vec<usize> {
-    ranges(&case.settings, case.chunks).into_iter().flat_map(|range| order_in(case, range)).collect()
+    ranges(&case.settings, case.chunks)
+        .into_iter()
+        .flat_map(|range| order_in(case, range))
+        .collect()
 }
 
 /// Rule W in a range, with the next bucket looked for among the 256 from the oldest on.

@@ -17,7 +17,7 @@ use Rattle.rules.specs.declared.SweepRecord.{SweepRecord}
 use Rattle.rules.specs.declared.Listed.{Listed}
 use Rattle.rules.specs.declared.Listed.the-variants as Hole
 use Rattle.rules.specs.Order.{Input, byLowBits}
-use Rattle.rules.proofs.Sheets.{inOne}
+use Rattle.rules.specs.Chunks.{inOne}
 use Rattle.rules.specs.Holes.{holesOf}
 use Rattle.rules.specs.Numbers.{Lent, lentOf, firstOf, holesLines, bitmapWords}
 use Rattle.rules.specs.Sweep.{finalSeeds, finalBitmap}

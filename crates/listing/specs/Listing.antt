@@ -8,7 +8,7 @@ use lib.Dec.{eqb, ltb}
 use lib.ListN.{length}
 use Rattle.rules.specs.Numbers.{Lent, firstOf, linesTo7, bitmapWords}
 use Rattle.rules.specs.Order.{Input, byLowBits}
-use Rattle.rules.proofs.Sheets.{inOne}
+use Rattle.rules.specs.Chunks.{inOne}
 use Rattle.rules.specs.Sweep.{finalSeeds, finalBitmap}
 use Rattle.rules.specs.Holes.{holesOf}
 use Rattle.rules.specs.Answers.{Said, Answer, Refusal, countsOf, sweepTurns, sweepAnswer, workNeeded}

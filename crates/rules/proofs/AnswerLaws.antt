@@ -66,13 +66,13 @@ module _ (tie : Tie) (how : How) (i : Input) (lent : Lent) (seeds bitmap work : 
   sweep-stopped b e s = record { said-is = rw (e, s) refl; seeds-are = rw (e, s) refl; bitmap-is = rw (e, s) refl; work-is = rw e refl }
 
 -- bumping allowed never stops; forbidden stops at the first bucket that gets 0
-pub stops-allowed : (tie : Tie) (chunks : ℕ) (i : Input) → stopsAt tie (record { bump = true; chunks = chunks }) i ≡ none
+pub stops-allowed : (tie : Tie) (how : How) (i : Input) → how .bump ≡ true → stopsAt tie how i ≡ none
 unfolding stopsAt
-stops-allowed tie chunks i = refl
+stops-allowed tie how i e = rw e refl
 
-pub stops-forbidden : (tie : Tie) (chunks : ℕ) (i : Input) → stopsAt tie (record { bump = false; chunks = chunks }) i ≡ failsAt i (sweepTurns tie chunks i)
+pub stops-forbidden : (tie : Tie) (how : How) (i : Input) → how .bump ≡ false → stopsAt tie how i ≡ failsAt i (sweepTurns tie (how .chunks) i)
 unfolding stopsAt
-stops-forbidden tie chunks i = refl
+stops-forbidden tie how i e = rw e refl
 
 -- where it stops, the turns did
 pub stops-fails : (tie : Tie) (how : How) (i : Input) (b : ℕ) → stopsAt tie how i ≡ some b → failsAt i (sweepTurns tie (how .chunks) i) ≡ some b

@@ -187,12 +187,13 @@ module _ (s : Settings) where
   ranges-cover c = covers (chunkCount s c) (count-pos c) (λ h. le-trans (mul-le-mul-left (chunkCount s c) (omega arith)) (count-room c h))
 
   -- one chunk is the whole range
-  pub one-range : ranges s 1 ≡ range 0 (s .buckets) ∷ []
-  unfolding ranges rangesOf lastChunk chunkCount
-  one-range = go (chunkCount s 1) (omega arith)
-    where
-      go : (n : ℕ) → n ≡ 1 → rangesOf s n ≡ range 0 (s .buckets) ∷ []
-      go n e = rw e (ap (λ (j : ℕ). range j (s .buckets) ∷ []) (bound-zero 1 (omega arith)))
+  pub count-one : chunkCount s 1 ≡ 1
+  unfolding chunkCount
+  count-one = omega arith
+
+  pub one-range : (c : ℕ) → chunkCount s c ≡ 1 → ranges s c ≡ range 0 (s .buckets) ∷ []
+  unfolding ranges rangesOf lastChunk
+  one-range c e = rw e (ap (λ (j : ℕ). range j (s .buckets) ∷ []) (bound-zero 1 (omega arith)))
 
 -- ---- the turns
 

@@ -14,8 +14,7 @@ use Rattle.rules.specs.declared.Settings.{Settings}
 use Rattle.rules.specs.Lists.{indicator, every}
 use Rattle.rules.specs.Geometry.{sliceLen, logLen, slices, scale, layouts, bucketOf, sliceOf, offsetOf, quotient, first, layoutOffset, position, stride, ringLen, rotations, perBucket, ringSlots, entries, workWords}
 use Rattle.rules.specs.Order.{Input, byLowBits, sizeOf, keysOf, weightEntry, weight, priority, goesFirst, nonempty, turn, turns, order}
-use Rattle.rules.specs.Chunks.{chunkGap, chunkCount, bound, shortChunk, lastChunk, gapChunk, rangesOf, ranges, orderIn, ordersOf}
-use Rattle.rules.specs.declared.How.{How}
+use Rattle.rules.specs.Chunks.{chunkGap, chunkCount, bound, shortChunk, lastChunk, gapChunk, rangesOf, ranges, orderIn, ordersOf, inOne}
 use Rattle.rules.specs.Seed.{isFirst, barred, unbarred, candidates, seedOf, slotsOf, fits, price, cost, cheaper, candidateFits, fitting, seedOfLeast, seedFor}
 use Rattle.rules.specs.Sweep.{takes, given, marks, seedIn, firstZero, wordOf, bitmapOf, finalSeeds, finalMarks, finalBitmap, failsAt}
 use Rattle.rules.specs.Holes.{unmarked, holesOf, slotBy, lookedUp, foundSlots}
@@ -61,10 +60,6 @@ shapeOf s z = sliceLen s ∷ slices s ∷ scale s ∷ stride s ∷ ringLen s ∷
 unfoldable pub lentFor : Input → Lent
 unfolding sliceLen logLen slices scale layouts stride ringLen perBucket ringSlots workWords leastFrom logUp leastPower sizeOf largestOf largest workNeeded
 lentFor i = record { seeds = i .settings .buckets; bitmap = 1; work = workNeeded i }
-
--- with one chunk
-abbrev pub inOne : (bump : Bool) → How
-inOne bump = record { bump = bump; chunks = 1 }
 
 -- to unfold `runs` is to unfold all that its line names
 unfoldable pub runs : Bool → Input → Said → List ℕ → List ℕ → List ℕ → Bool

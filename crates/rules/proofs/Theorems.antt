@@ -16,7 +16,7 @@ use Rattle.rules.specs.declared.How.{How}
 use Rattle.rules.specs.Lists.{elem, count, indicator}
 use Rattle.rules.specs.Geometry.{position, first, ringLen, rotations}
 use Rattle.rules.specs.Order.{Input, Tie, byLowBits, goesFirst, hasKeys, nonempty, order, keysOf}
-use Rattle.rules.specs.Chunks.{Range, ranges, ordersOf}
+use Rattle.rules.specs.Chunks.{Range, chunkCount, ranges, ordersOf}
 use Rattle.rules.specs.Seed.{fits, cost, seedFor, slotsOf}
 use Rattle.rules.specs.Sweep.{given, finalSeeds, finalMarks, failsAt}
 use Rattle.rules.specs.Numbers.{Lent, firstOf, sweepLines}
@@ -32,7 +32,7 @@ use Rattle.rules.proofs.SeedLaws.{fits-distinct, seed-least, seed-none,
 use Rattle.rules.proofs.SweepLaws.{Turn, turn-of, no-turn}
 use Rattle.rules.proofs.HoleLaws.{distinct-once}
 use Rattle.rules.proofs.PlacedLaws.{Proper, Placement, placement, proper-before}
-use Rattle.rules.proofs.ChunkLaws.{FollowsEach, one-range, orders-one, ranges-cover, orders-same, orders-proper, orders-follow, orders-only}
+use Rattle.rules.proofs.ChunkLaws.{FollowsEach, count-one, one-range, orders-one, ranges-cover, orders-same, orders-proper, orders-follow, orders-only}
 use Rattle.rules.proofs.Alone.{chunksThenGaps, as-level}
 use Rattle.rules.proofs.AnswerLaws.{stops-fails}
 use Rattle.rules.proofs.StopLaws.{FirstZero, first-some, first-none}
@@ -129,13 +129,14 @@ module _ (tie : Tie) (how : How) (i : Input) where
   abbrev taken : List ℕ
   taken = sweepTurns tie (how .chunks) i
 
-  permuted : Same taken (nonempty i 0 (i .settings .buckets))
+  -- each nonempty bucket once and no other
+  pub turns-permuted : Same taken (nonempty i 0 (i .settings .buckets))
   unfolding sweepTurns
-  permuted = orders-same tie i (i .settings .buckets) parts (ranges-cover (i .settings) (how .chunks))
+  turns-permuted = orders-same tie i (i .settings .buckets) parts (ranges-cover (i .settings) (how .chunks))
 
-  proper : Proper i taken
+  pub turns-proper : Proper i taken
   unfolding sweepTurns
-  proper = orders-proper tie i parts (ranges-cover (i .settings) (how .chunks))
+  turns-proper = orders-proper tie i parts (ranges-cover (i .settings) (how .chunks))
 
   module _ (lent : Lent) (fine : firstOf (sweepLines how i lent) ≡ 0) (w : Words (i .hashes)) where
     sound : Sound i
@@ -145,18 +146,18 @@ module _ (tie : Tie) (how : How) (i : Input) where
     unfolding sweepTurns
     swept A = record {
       shape = shaped i sound;
-      permutes = permuted;
+      permutes = turns-permuted;
       follows = orders-follow tie i parts;
       only = orders-only tie i A parts;
       level = as-level tie (how .chunks) i (sound .good) (sound .grouped);
-      each = λ b h k. served i sound w taken proper b (count-elem b taken (omega (arith, permuted b, nonempty-once i 0 (i .settings .buckets) b (omega arith) h k)));
-      empty = λ b h k. no-turn i taken b h (permuted b ∙ nonempty-empty i 0 (i .settings .buckets) b k);
+      each = λ b h k. served i sound w taken turns-proper b (count-elem b taken (omega (arith, turns-permuted b, nonempty-once i 0 (i .settings .buckets) b (omega arith) h k)));
+      empty = λ b h k. no-turn i taken b h (turns-permuted b ∙ nonempty-empty i 0 (i .settings .buckets) b k);
       twice = λ b h l two. equal b h l two (split (elem b taken));
-      placed = placement i sound w taken proper;
+      placed = placement i sound w taken turns-proper;
     }
       where
         equal : (b h : ℕ) → b < i .settings .buckets → 2 ≤ count h (keysOf i b) → T (elem b taken) ⊎ T (not (elem b taken)) → getD (finalSeeds i taken) b 0 ≡ 0
-        equal b h l two (inl t) = let s = served i sound w taken proper b t in s .none-zero (λ v ne lt. twice-none i (finalMarks i (s .turn .before)) b h two v)
+        equal b h l two (inl t) = let s = served i sound w taken turns-proper b t in s .none-zero (λ v ne lt. twice-none i (finalMarks i (s .turn .before)) b h two v)
         equal b h l two (inr t) = no-turn i taken b l (not-elem-count b taken t)
 
 -- ---- a sweep that 14 refused: bumping is forbidden and bucket b, the first in turn, gets 0
@@ -189,14 +190,18 @@ stopped tie how i lent fine w b e = record {
     z = first-some i (sweepTurns tie (how .chunks) i) [] b (stops-fails tie how i b e)
 
     before-it : Proper i (z .before ++ b ∷ [])
-    before-it = proper-before i (z .before ++ b ∷ []) (z .after) (subst (Proper i) (z .ordered ∙ sym (append-assoc (z .before) (b ∷ []) (z .after))) (proper tie how i))
+    before-it = proper-before i (z .before ++ b ∷ []) (z .after) (subst (Proper i) (z .ordered ∙ sym (append-assoc (z .before) (b ∷ []) (z .after))) (turns-proper tie how i))
 
 -- ---- document 01's rule for ties
 
 pub swept-low : (how : How) (i : Input) (lent : Lent) → firstOf (sweepLines how i lent) ≡ 0 → Words (i .hashes) → Swept byLowBits (how .chunks) i
 swept-low how i lent fine w = swept byLowBits how i lent fine w (apart-low i)
 
--- one chunk: the order of the whole range
-pub one-chunk : (tie : Tie) (i : Input) → sweepTurns tie 1 i ≡ order tie i 0 (i .settings .buckets)
+-- ---- one chunk, asked for or all that the level is long enough for: the order of the whole range
+
+pub one-chunk : (tie : Tie) (c : ℕ) (i : Input) → chunkCount (i .settings) c ≡ 1 → sweepTurns tie c i ≡ order tie i 0 (i .settings .buckets)
 unfolding sweepTurns
-one-chunk tie i = ap (ordersOf tie i) (one-range (i .settings)) ∙ orders-one tie i 0 (i .settings .buckets)
+one-chunk tie c i e = ap (ordersOf tie i) (one-range (i .settings) c e) ∙ orders-one tie i 0 (i .settings .buckets)
+
+pub as-before : (tie : Tie) (i : Input) → sweepTurns tie 1 i ≡ order tie i 0 (i .settings .buckets)
+as-before tie i = one-chunk tie 1 i (count-one (i .settings))

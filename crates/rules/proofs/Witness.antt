@@ -11,10 +11,11 @@ use Rattle.words.specs.Map.{Words}
 use Rattle.rules.specs.Lists.{every}
 use Rattle.rules.specs.Order.{Input, byLowBits}
 use Rattle.rules.specs.Numbers.{firstOf, sweepLines}
+use Rattle.rules.specs.Chunks.{inOne}
 use Rattle.rules.specs.Answers.{Answer, Refusal, stopsAt, sweepAnswer, sweepSeeds, sweepBitmap}
 use Rattle.rules.proofs.Ranges.{every-getD}
 use Rattle.rules.proofs.Theorems.{Swept, swept-low, Stopped, stopped}
-use Rattle.rules.proofs.Sheets.{inOne, table, small, listing, lentFor, runs}
+use Rattle.rules.proofs.Sheets.{table, small, listing, lentFor, runs}
 
 -- each entry below 2^64, by one test
 narrow : ℕ → Bool

@@ -10,12 +10,13 @@ use lib.ListN.{length, replicate, getD, length-replicate}
 use Rattle.rules.specs.declared.Settings.{Settings}
 use Rattle.rules.specs.Geometry as G
 use Rattle.rules.specs.Order.{Input, keysOf}
+use Rattle.rules.specs.Chunks.{inOne}
 use Rattle.rules.specs.Seed.{seedFor}
 use Rattle.rules.specs.Numbers.{firstOf, sweepLines, bitmapWords}
 use Rattle.rules.specs.Good.{Sound}
 use Rattle.rules.proofs.InputLaws.{passes}
 use Rattle.rules.proofs.CheckLaws.{good-usable}
-use Rattle.rules.proofs.Sheets.{inOne, table, small, lentFor, runs}
+use Rattle.rules.proofs.Sheets.{table, small, lentFor, runs}
 use Rattle.geometry.specs.Shape.{geometryOf}
 use Rattle.geometry.proofs.Sizes.{made}
 use Rattle.rings.specs.Level.{levelRing}
