@@ -52,6 +52,8 @@ pub enum Error {
     Keys,
     /// 20: a sweep in no chunk.
     Chunks,
+    /// 21: a table to be filled has no entries, or more than 131,072.
+    TableLength,
 }
 
 impl Error {
@@ -76,6 +78,7 @@ impl Error {
             16 => Error::BucketSize,
             17 => Error::Keys,
             20 => Error::Chunks,
+            21 => Error::TableLength,
             _ => unreachable!("the library answered {number}, which none of its calls does"),
         }
     }
@@ -115,6 +118,7 @@ impl Error {
             }
             Error::Keys => (17, "k above 67,108,864"),
             Error::Chunks => (20, "chunk count 0"),
+            Error::TableLength => (21, "length 0 or above 131,072"),
         }
     }
 }
