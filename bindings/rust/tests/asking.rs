@@ -184,6 +184,20 @@ fn levels() {
     }
 }
 
+/// So many keys make two chunks at the defaults.
+#[test]
+fn levels_in_chunks() {
+    let keys = hashes(150_000);
+    let swept = |chunks| Builder::new().chunks(chunks).sweep(keys.clone()).unwrap();
+    let (one, two) = (swept(1), swept(2));
+    hold_together(&two, &keys);
+    assert!(one.seeds() != two.seeds());
+    // The first chunk begins as the level does, until its window would look past its end.
+    let end = one.settings().buckets as usize / 2 - 242 - 256;
+    assert!(one.seeds()[..end] == two.seeds()[..end]);
+    assert!(two == swept(u64::MAX));
+}
+
 /// Slices of 2,048 to 65,536 slots, which want a longer table than the house table. No table is given.
 #[test]
 fn long_slices() {

@@ -1,3 +1,4 @@
+-- `check_all` finds the first number test after test: 1 to 7, then 8, 20 and 9 to 12, then 13.
 use Rattle.checks.proofs.Cascade.{refused-7, refused-12, refused-13}
 use Rattle.checks.specs.Verdicts.{Examined, Judged, lentBad}
 use Rattle.checks.specs.declared.Verdict.{Verdict}

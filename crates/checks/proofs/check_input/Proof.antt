@@ -1,3 +1,4 @@
+-- `check_input` makes the tests of the lines 8, 20 and 9 to 12 one after another; where one applies, none before it did.
 use Rattle.checks.proofs.Cascade.{is-8, is-20, is-9, is-10, is-11, is-12, is-none, few-keys, many-keys, begins-good, begins-rise, test8, test20, test9, test10, test11, test12}
 use Rattle.checks.specs.Verdicts.{Examined, inputLines}
 use Rattle.checks.specs.declared.Verdict.{Verdict}

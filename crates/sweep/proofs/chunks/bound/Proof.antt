@@ -1,3 +1,4 @@
+-- `bound` is the quotient of the definition: no product of a range's number and the buckets is too large.
 use native.Mathlib.Omega.{arith}
 use Rattle.sweep.proofs.RangeLaws.{product-fits}
 use borrow.Author.Needs.{needs}

@@ -1,3 +1,4 @@
+-- `chunk_count` is `chunkCount`, by the gap that it is handed; a chunk has at least 4,096 buckets, so there are few.
 use Rattle.sweep.proofs.RangeLaws.{count-by}
 use borrow.Author.Needs.{needs}
 use Rattle.sweep.proofs.chunks.chunk_count.Statement.{statement}

@@ -1,3 +1,4 @@
+-- `chunk_gap` is `chunkGap` over the geometry's numbers; l is at most 2^16 and B below 2^27, so the product has room.
 use native.Mathlib.Omega.{arith}
 use Rattle.geometry.proofs.Sizes.{sized}
 use Rattle.sweep.proofs.RangeLaws.{gap-is, product-small, gap-small}

@@ -1,3 +1,4 @@
+-- `range_at` is entry k of `rangesOf`: a short chunk, the last one, or a gap, as k stands to the chunks. Where there are gaps, each bound after the first is a gap or more.
 use native.Mathlib.Omega.{arith}
 use Prim.Native.Nat.{_-_}
 use Rattle.sweep.proofs.RangeLaws.{gap-room, short-by, last-by, gap-by}

@@ -1,3 +1,4 @@
+-- `load` takes the column that the first slot of bucket lo stands in, so the ring begins at or before it.
 use native.Mathlib.Omega.{arith}
 use mathlib.Core.Path.{_≡_, refl, sym, ap, _∙_, subst}
 use Prim.Native.Nat.{ℕ, _+_, _-_, _*_, _/_, _^_, _<_, _≤_}

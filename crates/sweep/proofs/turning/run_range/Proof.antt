@@ -1,3 +1,4 @@
+-- `run_range` loads the ring at the range's first bucket and blanks the window; then a record of the turns starts, with those of the ranges before.
 use native.Mathlib.Omega.{arith}
 use mathlib.Core.Path.{_≡_, refl, sym, ap, _∙_, subst}
 use Rattle.rules.specs.declared.Settings.{Settings}
