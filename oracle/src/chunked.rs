@@ -64,40 +64,71 @@ fn sizes(random: &mut Random, s: &Settings) -> Vec<usize> {
     sizes
 }
 
-fn of(random: &mut Random, shape: Shape, buckets: usize, chunks: usize) -> Case {
-    let s = settings_of(shape, buckets);
+/// A case to be made: its settings, the chunks asked for, and of a sweep that is to be stopped how many
+/// ranges come before the first that stops it.
+#[derive(Clone, Copy, Debug)]
+pub struct Plan {
+    shape: Shape,
+    buckets: usize,
+    pub chunks: usize,
+    spared: Option<usize>,
+}
+
+impl Plan {
+    pub fn settings(&self) -> Settings {
+        settings_of(self.shape, self.buckets)
+    }
+
+    fn case(&self, random: &mut Random) -> Case {
+        match self.spared {
+            None => swept(random, self.settings(), self.chunks),
+            Some(spared) => stopped(random, self.settings(), self.chunks, spared),
+        }
+    }
+}
+
+fn swept(random: &mut Random, s: Settings, chunks: usize) -> Case {
     let sizes = sizes(random, &s);
     Case { chunks, ..fill(random, s, &sizes) }
 }
 
-/// The limits of the chunk counts of some shapes: with buckets for just so many chunks and for one
-/// less, asking for as many, for one less, and for all that there can be.
-fn limits(random: &mut Random, shapes: &[Shape], counts: &[usize]) -> Vec<Case> {
-    let mut cases = vec![];
-    for &shape in shapes {
-        for &count in counts {
-            let buckets = least_buckets(shape, count);
-            cases.push(of(random, shape, buckets, count));
-            cases.push(of(random, shape, buckets, count - 1));
-            cases.push(of(random, shape, buckets, usize::MAX));
-            cases.push(of(random, shape, buckets - 2, count));
-        }
-    }
-    cases
-}
-
-/// One key to every fourth bucket, and two equal ones in some bucket of each range: bumping is
-/// forbidden, and the first range with such a bucket ends the sweep. `spared` of the ranges have none.
-fn stopped(random: &mut Random, shape: Shape, count: usize, spared: usize) -> Case {
-    let s = settings_of(shape, least_buckets(shape, count));
+/// One key to every fourth bucket, and two equal ones in some bucket of each range but the first few:
+/// bumping is forbidden, and the first range with such a bucket ends the sweep.
+fn stopped(random: &mut Random, s: Settings, chunks: usize, spared: usize) -> Case {
     let mut buckets: Vec<Vec<u64>> = (0..s.buckets)
         .map(|b| if b % 4 == 0 { vec![low(s.buckets, b) + 5] } else { vec![] })
         .collect();
-    for range in ranges(&s, count).into_iter().skip(spared) {
+    for range in ranges(&s, chunks).into_iter().skip(spared) {
         let b = random.from_to(range.start, range.end - 1);
         buckets[b] = vec![low(s.buckets, b); 2];
     }
-    Case { chunks: count, ..Case::new(s, false, [0; 7], &buckets) }
+    Case { chunks, ..Case::new(s, false, [0; 7], &buckets) }
+}
+
+/// The limits of the chunk counts of some shapes: with buckets for just so many chunks and for one
+/// less, asking for as many, for one less, and for all that there can be.
+fn limits(shapes: &[Shape], counts: &[usize]) -> Vec<Plan> {
+    let mut plans = vec![];
+    for &shape in shapes {
+        for &count in counts {
+            let least = least_buckets(shape, count);
+            let asked =
+                [(least, count), (least, count - 1), (least, usize::MAX), (least - 2, count)];
+            plans.extend(asked.map(|(buckets, chunks)| Plan {
+                shape,
+                buckets,
+                chunks,
+                spared: None,
+            }));
+        }
+    }
+    plans
+}
+
+/// Sweeps in three chunks that are stopped in each of the five ranges, and one that is not.
+fn stops(shape: Shape) -> [Plan; 6] {
+    let buckets = least_buckets(shape, 3);
+    std::array::from_fn(|spared| Plan { shape, buckets, chunks: 3, spared: Some(spared) })
 }
 
 /// Random families of 2 to 20 times the buckets of a chunk.
@@ -107,32 +138,30 @@ pub fn families(seed: u64, count: usize) -> impl Iterator<Item = Case> {
         let shape = random.pick(&SHORT);
         let buckets = least_buckets(shape, 2) * random.from_to(2, 20) / 2 + random.below(4096);
         let chunks = if random.one_in(4) { usize::MAX } else { random.from_to(2, 64) };
-        of(&mut random, shape, buckets | 1, chunks)
+        swept(&mut random, settings_of(shape, buckets | 1), chunks)
     })
 }
 
-/// Enough for a test: the shorter gaps at few chunks, one longer than the window, and stopped sweeps.
-pub fn some(seed: u64) -> Vec<Case> {
-    let mut random = Random(seed);
-    let mut cases = limits(&mut random, &SHORT, &FEW);
-    cases.extend(limits(&mut random, &LONG[..3], &[2]));
-    for spared in 0..=5 {
-        cases.push(stopped(&mut random, SHORT[0], 3, spared));
-    }
-    cases
+/// Enough for a test: the shorter gaps at few chunks, some around the window's length, and stopped sweeps.
+pub fn few_plans() -> Vec<Plan> {
+    let mut plans = limits(&SHORT, &FEW);
+    plans.extend(limits(&LONG[..3], &[2]));
+    plans.extend(stops(SHORT[0]));
+    plans
 }
 
 /// All limits.
-pub fn all(seed: u64) -> Vec<Case> {
+pub fn plans() -> Vec<Plan> {
+    let mut plans = limits(&SHORT, &COUNTS);
+    plans.extend(limits(&LONG, &FEW));
+    plans.extend(SHORT.into_iter().chain(LONG).flat_map(stops));
+    plans
+}
+
+/// The cases of some plans, one after another.
+pub fn cases(seed: u64, plans: Vec<Plan>) -> impl Iterator<Item = Case> {
     let mut random = Random(seed);
-    let mut cases = limits(&mut random, &SHORT, &COUNTS);
-    cases.extend(limits(&mut random, &LONG, &FEW));
-    for shape in SHORT.into_iter().chain(LONG) {
-        for spared in 0..=5 {
-            cases.push(stopped(&mut random, shape, 3, spared));
-        }
-    }
-    cases
+    plans.into_iter().map(move |plan| plan.case(&mut random))
 }
 
 /// A million keys on so many slots, in at most so many chunks. At the defaults as many slots as keys make 15

@@ -198,43 +198,31 @@ fn several_chunks_are_swept() {
     }
 }
 
-/// How many of the cases are split, and what their chunks and gaps are.
-fn splits(cases: impl Iterator<Item = Case>) -> (usize, Vec<usize>, Vec<usize>) {
-    let (mut split, mut counts, mut gaps) = (0, vec![], vec![]);
-    for case in cases {
-        assert_eq!(domain::refused(&case), None, "{:?}", case.settings);
-        let count = chunks(&case.settings, case.chunks);
-        assert_eq!(
-            naive::ranges(&case.settings, case.chunks),
-            oracle::ranges(&case.settings, case.chunks),
-            "{:?}",
-            case.settings
-        );
-        if count > 1 {
-            split += 1;
-            counts.push(count);
-            gaps.push(oracle::chunk_gap(&case.settings));
-        }
-    }
-    (split, counts, gaps)
-}
-
 #[test]
 fn chunked_cases_are_split() {
-    let (split, counts, gaps) =
-        splits(chunked::all(seed()).into_iter().chain(chunked::families(seed(), 100)));
-    assert!(split >= 300, "{split}");
+    let (mut counts, mut gaps) = (vec![], vec![]);
+    for plan in chunked::plans() {
+        let s = plan.settings();
+        assert_eq!(domain::refused_settings(&s), None, "{s:?}");
+        let by_document = naive::ranges(&s, plan.chunks);
+        assert_eq!(by_document, oracle::ranges(&s, plan.chunks), "{s:?}");
+        if by_document.len() > 1 {
+            counts.push(chunks(&s, plan.chunks));
+            gaps.push(oracle::chunk_gap(&s));
+        }
+    }
+    assert!(counts.len() >= 300, "{}", counts.len());
     assert_eq!((counts.iter().min(), counts.iter().max()), (Some(&2), Some(&64)));
     assert!(gaps.iter().any(|&gap| gap <= 256) && gaps.iter().any(|&gap| gap > 256));
-    let (split, ..) = splits(chunked::some(seed()).into_iter());
-    assert!(split >= 50, "{split}");
 }
 
 /// Whole sweeps in chunks, on the cases that the gate compares.
 #[test]
 fn document_02_says_what_the_rust_does() {
     let mut compared = 0;
-    for (i, case) in chunked::some(seed()).into_iter().filter(naive::is_small).enumerate() {
+    let cases = chunked::cases(seed(), chunked::few_plans());
+    for (i, case) in cases.filter(naive::is_small).enumerate() {
+        assert_eq!(domain::refused(&case), None, "{:?}", case.settings);
         if let Some(found) = difference(naive_outcome(&case), outcome(&case)) {
             panic!("case {i}, {:?}, {} chunks: {found}", case.settings, case.chunks);
         }

@@ -92,7 +92,7 @@ impl Run {
         for log2_slice_len in LONG_SLICES {
             self.family(LONG_SLICES_KEYS, ((log2_slice_len, 2, 8), 4.25));
         }
-        self.split("in chunks", chunked::some(self.seed ^ 4));
+        self.split("in chunks", chunked::cases(self.seed ^ 4, chunked::few_plans()));
     }
 
     /// A million keys at the defaults, on so many slots, in at most so many chunks.
@@ -103,18 +103,20 @@ impl Run {
     }
 
     fn chunks(&mut self) {
-        self.split("limits of the chunk count", chunked::all(self.seed ^ 4));
-        self.split("in chunks", chunked::families(self.seed ^ 5, 200).collect());
+        let limits = chunked::cases(self.seed ^ 4, chunked::plans());
+        self.split("limits of the chunk count", limits);
+        self.split("in chunks", chunked::families(self.seed ^ 5, 200));
         for (slots, chunks) in [(1_000_000, 16), (1_100_000, 16), (1_100_000, usize::MAX)] {
             self.million(slots, chunks);
         }
     }
 
     /// Compares cases and says how many of them were split.
-    fn split(&mut self, what: &str, cases: Vec<Case>) {
-        let split = |case: &&Case| oracle::chunks(&case.settings, case.chunks) > 1;
-        let count = cases.iter().filter(split).count();
-        self.compare(&format!("{what} ({count} split)"), cases.into_iter());
+    fn split(&mut self, what: &str, cases: impl Iterator<Item = Case>) {
+        let mut count = 0;
+        let splits = |case: &Case| oracle::chunks(&case.settings, case.chunks) > 1;
+        self.compare(what, cases.inspect(|case| count += usize::from(splits(case))));
+        println!("{what}: {count} were split");
     }
 
     fn long(&mut self) {
