@@ -42,7 +42,7 @@ mod table;
 pub use builder::Builder;
 pub use error::Error;
 pub use groups::Groups;
-pub use level::{Holes, Level};
+pub use level::{Holes, Level, check_level};
 pub use settings::{How, Settings, default_weights};
 pub use table::{HOUSE_ENTRIES, LOG_ENTRIES, house_table, log_table};
 
