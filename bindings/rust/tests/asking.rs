@@ -1,5 +1,8 @@
 //! The refusals of the calls beside the sweep, each met and just missed, and owned levels.
 
+mod common;
+
+use common::Random;
 use phastr::lent;
 use phastr::{BUMPED, Builder, Error, Groups, Level, Settings, default_weights, log_table};
 
@@ -142,15 +145,10 @@ fn groups() {
     assert_eq!((some.begins(), some.largest()), (&[0, 2, 2, 3, 3, 4][..], 2));
 }
 
-/// Numbers that are spread like hashes (splitmix64).
+/// So many hashes.
 fn hashes(count: u64) -> Vec<u64> {
-    let spread = |i: u64| {
-        let mut x = i.wrapping_mul(0x9E37_79B9_7F4A_7C15);
-        x = (x ^ (x >> 30)).wrapping_mul(0xBF58_476D_1CE4_E5B9);
-        x = (x ^ (x >> 27)).wrapping_mul(0x94D0_49BB_1331_11EB);
-        x ^ (x >> 31)
-    };
-    (1..=count).map(spread).collect()
+    let mut random = Random(0);
+    (0..count).map(|_| random.next()).collect()
 }
 
 /// Each key has a slot of its own or was bumped, and the slots taken and the holes are all there are.
