@@ -1,0 +1,4 @@
+pub mod Taking
+pub mod Format
+pub mod Reading
+pub mod Answer
