@@ -8,4 +8,8 @@ pub mod Accepted
 mod FillLaws
 mod HeadLaws
 mod PartLaws
+mod PutLaws
+mod MeasureLaws
+pub mod WriteLaws
+pub mod Written
 mod Sheet

@@ -1,6 +1,7 @@
 // Level files: a finished level without its hashes, in house numbers.
 mod clearing;
 mod reading;
+mod writing;
 
 ghost use mathlib.Core.Path.{_≡_};
 ghost use Rattle.level_file.specs.Taking.{takenAt};
@@ -8,6 +9,8 @@ use house_numbers::Decoded;
 use house_numbers::decode;
 pub use reading::FileRead;
 pub use reading::read_file;
+pub use writing::FileWritten;
+pub use writing::write_file;
 
 // A level file that is being read: its bytes, and the place of the next number.
 pub struct Reader<'a> {
