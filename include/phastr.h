@@ -44,7 +44,7 @@
 extern "C" {
 #endif
 
-/* The numbers of document 01, and its words. 18 and 19 are the sweep list program's alone. */
+/* The numbers of documents 01 and 02, and their words. 18 and 19 are the sweep list program's alone. */
 enum phastr_number {
     PHASTR_OK = 0,
     PHASTR_SEED_BITS = 1,          /* sb outside 2..16 */
@@ -64,14 +64,16 @@ enum phastr_number {
     PHASTR_NO_SEED = 14,           /* bumping forbidden and the bucket taken gets 0 */
     PHASTR_HOLE_BUFFER = 15,       /* hole list longer than its buffer */
     PHASTR_BUCKET_SIZE = 16,       /* bucket size not in 1 to min(2^log2_slice_len/8, 64), NaN included */
-    PHASTR_KEYS = 17               /* k above 67,108,864 */
+    PHASTR_KEYS = 17,              /* k above 67,108,864 */
+    PHASTR_TABLE_LENGTH = 21       /* length 0 or above 131,072 */
 };
 
 /* The slot of a hash whose bucket has seed 0: it was bumped, or is empty. */
 #define PHASTR_BUMPED UINT64_MAX
 
-/* The entries of the house table. */
+/* The entries of the house table, and of the longest table that phastr_log_table fills. */
 #define PHASTR_HOUSE_ENTRIES 2048
+#define PHASTR_LOG_ENTRIES 131072
 
 /*
  * How many buckets so many keys get at an expected bucket size (PHastR's default 4.25): keys / size,
@@ -93,9 +95,17 @@ uint64_t phastr_sizes(uint64_t m, uint64_t log2_slice_len, uint64_t ll, uint64_t
 /*
  * Writes the house table of logarithms: entry d is 2^24 * log2(d), rounded to nearest, and entry 0
  * is 0. It is long enough for slices of up to 1,024 slots where p (see 7) is at most 928; where
- * phastr_sizes asks for more, lend a longer table that goes on by the same rule.
+ * phastr_sizes asks for more, lend what phastr_log_table fills.
  */
 void phastr_house_table(uint32_t table[PHASTR_HOUSE_ENTRIES]);
+
+/*
+ * Fills a table of logarithms of 1 to PHASTR_LOG_ENTRIES entries by the same rule, in whole numbers;
+ * it begins with the house table, as far as it goes. No settings ask for more than 69,728 entries.
+ *
+ * Answers 0, or 21 where table_len is 0 or above PHASTR_LOG_ENTRIES.
+ */
+uint64_t phastr_log_table(uint32_t *table, size_t table_len);
 
 /*
  * Sweeps a level: finds a seed for each bucket.
@@ -106,7 +116,7 @@ void phastr_house_table(uint32_t table[PHASTR_HOUSE_ENTRIES]);
  *   bump     whether a bucket that no seed fits is bumped. If not, it ends the sweep with 14.
  *   hashes   bucket after bucket, in any order within one. Sorted hashes stand so.
  *   begins   B + 1 numbers: bucket b's hashes are those from begins[b] to before begins[b + 1].
- *   table    of logarithms (phastr_house_table, phastr_sizes).
+ *   table    of logarithms (phastr_house_table, phastr_log_table), as long as phastr_sizes says.
  *   seeds    B of them; bitmap: ceil(m/64) words; work: at least W words (phastr_sizes). What they
  *            hold before does not matter.
  *

@@ -1,4 +1,5 @@
-"""Document 01 word by word: rules G, W and S with every candidate tried against a set of taken slots, the numbers, and the program."""
+"""Documents 01 and 02 word by word: rules G, W and S with every candidate tried against a set of taken slots, the numbers, the program, and tables of
+logarithms."""
 from collections import namedtuple
 from decimal import Decimal, getcontext
 from itertools import accumulate, chain
@@ -7,7 +8,17 @@ getcontext().prec = 40
 Settings = namedtuple("Settings", "m slice ll sb buckets")
 WORD = 2**64
 
-HOUSE = [0] + [round(2**24 * Decimal(d).ln() / Decimal(2).ln()) for d in range(1, 2048)]
+
+# the house table, and 02, 4/14: a longer one
+def log_table(entries):
+    """21, or entry d = 2^24 log2 d rounded to nearest for each d, entry 0 = 0."""
+    if not 1 <= entries <= 131_072:
+        return 21
+    unit = 2**24 / Decimal(2).ln()
+    return [0] + [round(unit * Decimal(d).ln()) for d in range(1, entries)]
+
+
+HOUSE = log_table(2048)
 
 
 def power_from(x):

@@ -8,7 +8,7 @@ use phastr::lent::{self, Output};
 use phastr::{BUMPED, Builder, Counts, Error};
 
 /// The entries of the longest table that any settings ask for.
-pub const LONGEST_TABLE: usize = 95 + 4097 + 65_536;
+const LONGEST_TABLE: usize = 95 + 4097 + 65_536;
 
 /// What stands in lent memory where the last case has left nothing.
 const RUBBISH: u64 = 0xA5A5_A5A5_A5A5_A5A5;

@@ -8,7 +8,7 @@
 //! let settings = Settings { slots: 7, log2_slice_len: 3, log2_layouts: 0, seed_bits: 4, buckets: 3 };
 //! let groups = Groups::new(3, vec![1 << 62, (1 << 62) + 3, 1 << 63])?;
 //! let sizes = lent::sizes(&settings, groups.largest())?;
-//! let table = phastr::log_table(sizes.table);
+//! let table = phastr::log_table(sizes.table)?;
 //! let (mut seeds, mut bitmap, mut work) = (vec![0; 3], vec![0; sizes.bitmap], vec![0; sizes.work]);
 //!
 //! let input = lent::Input {
@@ -135,4 +135,18 @@ pub fn bucket_count(log2_slice_len: u32, keys: u64, size: f64) -> Result<u64, Er
     let mut count = 0;
     let number = raw::bucket_count(log2_slice_len, keys, size, &mut count);
     answer(number, count)
+}
+
+/// Fills a table of logarithms, of the length lent: entry d is 2^24·log2 d, rounded to nearest, and
+/// entry 0 is 0. Refused: 21 where it has no entries or more than
+/// [`LOG_ENTRIES`](crate::LOG_ENTRIES).
+///
+/// ```
+/// let mut table = [7; 9];
+/// phastr::lent::log_table(&mut table)?;
+/// assert_eq!([table[0], table[1], table[4], table[8]], [0, 0, 2 << 24, 3 << 24]);
+/// # Ok::<(), phastr::Error>(())
+/// ```
+pub fn log_table(table: &mut [u32]) -> Result<(), Error> {
+    answer(raw::log_table(table), ())
 }

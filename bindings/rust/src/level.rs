@@ -38,7 +38,7 @@ impl Level {
         let table = if sizes.table <= HOUSE_ENTRIES {
             house_table().to_vec()
         } else {
-            log_table(sizes.table)
+            log_table(sizes.table)?
         };
         let mut seeds = vec![0; settings.buckets as usize];
         let mut bitmap = vec![0; sizes.bitmap];

@@ -88,6 +88,8 @@ unsafe extern "C" {
     ) -> u64;
 
     fn phastr_house_table(table: &mut [u32; HOUSE_ENTRIES]);
+
+    fn phastr_log_table(table: *mut u32, table_len: usize) -> u64;
 }
 
 /// m, log2_slice_len, ll, sb and B, as every call takes them.
@@ -186,6 +188,12 @@ pub(crate) fn sizes(s: &Settings, largest: u64, sizes: &mut [u64; 3]) -> u64 {
 pub(crate) fn house_table(table: &mut [u32; HOUSE_ENTRIES]) {
     // SAFETY: a reference for writing, to as many entries as the library writes.
     unsafe { phastr_house_table(table) }
+}
+
+/// Answers the number; the table is written at 0.
+pub(crate) fn log_table(table: &mut [u32]) -> u64 {
+    // SAFETY: the pointer and length are those of one slice, borrowed for writing.
+    unsafe { phastr_log_table(table.as_mut_ptr(), table.len()) }
 }
 
 #[cfg(test)]

@@ -1,7 +1,10 @@
 //! The refusals of the calls beside the sweep, each met and just missed, and owned levels.
 
+mod common;
+
+use common::Random;
 use phastr::lent;
-use phastr::{BUMPED, Builder, Error, Groups, Level, Settings, default_weights, log_table};
+use phastr::{BUMPED, Builder, Error, Groups, Level, Settings, default_weights};
 
 /// Settings that pass, of three buckets.
 const SOUND: Settings =
@@ -142,15 +145,10 @@ fn groups() {
     assert_eq!((some.begins(), some.largest()), (&[0, 2, 2, 3, 3, 4][..], 2));
 }
 
-/// Numbers that are spread like hashes (splitmix64).
+/// So many hashes.
 fn hashes(count: u64) -> Vec<u64> {
-    let spread = |i: u64| {
-        let mut x = i.wrapping_mul(0x9E37_79B9_7F4A_7C15);
-        x = (x ^ (x >> 30)).wrapping_mul(0xBF58_476D_1CE4_E5B9);
-        x = (x ^ (x >> 27)).wrapping_mul(0x94D0_49BB_1331_11EB);
-        x ^ (x >> 31)
-    };
-    (1..=count).map(spread).collect()
+    let mut random = Random(0);
+    (0..count).map(|_| random.next()).collect()
 }
 
 /// Each key has a slot of its own or was bumped, and the slots taken and the holes are all there are.
@@ -183,6 +181,23 @@ fn levels() {
         hold_together(&Builder::new().sweep(keys.clone()).unwrap(), &keys);
         let wide = Builder::new().seed_bits(10).log2_slice_len(11).bucket_size(5.75);
         hold_together(&wide.sweep(keys.clone()).unwrap(), &keys);
+    }
+}
+
+/// Slices of 2,048 to 65,536 slots, which want a longer table than the house table. No table is given.
+#[test]
+fn long_slices() {
+    for log2_slice_len in 11..=16 {
+        let length = 1 << log2_slice_len;
+        // As many slots as a slice has, a few around that, and twice as many.
+        for count in [length - 1, length, length + 1, 2 * length + 7] {
+            let keys = hashes(count);
+            let long = Builder::new().log2_slice_len(log2_slice_len);
+            let level = long.sweep(keys.clone()).unwrap();
+            let sizes = lent::sizes(&level.settings(), 1).unwrap();
+            assert_eq!(sizes.table > phastr::HOUSE_ENTRIES, count >= 2 * 1024, "{count}");
+            hold_together(&level, &keys);
+        }
     }
 }
 
@@ -223,15 +238,9 @@ fn levels_of_parts_are_checked() {
 }
 
 #[test]
-fn phastrs_weights_and_table() {
+fn phastrs_weights() {
     assert_eq!(default_weights(8)[..2], [-52000, 53315]);
     assert_eq!(default_weights(9)[..2], [46000, 55041]);
-    let table = log_table(65_537);
-    assert_eq!([table[2049], table[3000], table[65_535]], [184_561_192, 193_789_374, 268_435_087]);
-    assert_eq!(table[65_536], 16 << 24);
-    assert!(table.windows(2).skip(1).all(|w| w[0] < w[1]));
-    assert_eq!(log_table(5), table[..5]);
-    assert_eq!(log_table(0), []);
 }
 
 #[test]
@@ -243,4 +252,5 @@ fn errors_say_number_and_words() {
     );
     assert_eq!(Error::SeedBits.to_string(), "refused 1: sb outside 2..16");
     assert_eq!(Error::Keys.words(), "k above 67,108,864");
+    assert_eq!(Error::TableLength.to_string(), "refused 21: length 0 or above 131,072");
 }

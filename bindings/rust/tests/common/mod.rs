@@ -1,4 +1,4 @@
-//! A sweep whose every part a test can change, and what it left behind.
+//! A sweep whose every part a test can change, and what it left behind; and numbers at random.
 #![allow(dead_code)]
 
 use phastr::lent::{self, Input, Output};
@@ -39,7 +39,7 @@ pub fn case(settings: Settings, buckets: &[&[u64]]) -> Case {
     for bucket in buckets {
         begins.push(begins[begins.len() - 1] + bucket.len() as u32);
     }
-    let table = log_table(4300);
+    let table = log_table(4300).unwrap();
     let case = Case {
         settings,
         weights: [0; 7],
@@ -126,5 +126,28 @@ impl Case {
         let wanted = lent::sizes(&self.settings, u64::from(largest)).unwrap().work;
         assert!(swept.work[..wanted].iter().all(|&w| w == 0), "work is not zero");
         assert!(swept.work[wanted..].iter().all(|&w| w == WORD), "work beyond W was written");
+    }
+}
+
+/// Numbers that are spread like hashes (splitmix64).
+pub struct Random(pub u64);
+
+impl Random {
+    pub fn next(&mut self) -> u64 {
+        self.0 = self.0.wrapping_add(0x9E37_79B9_7F4A_7C15);
+        let mut z = self.0;
+        z = (z ^ (z >> 30)).wrapping_mul(0xBF58_476D_1CE4_E5B9);
+        z = (z ^ (z >> 27)).wrapping_mul(0x94D0_49BB_1331_11EB);
+        z ^ (z >> 31)
+    }
+
+    pub fn from_to(&mut self, least: u64, most: u64) -> u64 {
+        least + self.next() % (most - least + 1)
+    }
+
+    pub fn shuffle<T>(&mut self, list: &mut [T]) {
+        for i in (1..list.len()).rev() {
+            list.swap(i, self.from_to(0, i as u64) as usize);
+        }
     }
 }
