@@ -52,6 +52,17 @@ pub enum Error {
     Keys,
     /// 21: a table to be filled has no entries, or more than 131,072.
     TableLength,
+    /// 22: a level file ends too early, or has a number of over 64 bits or ten groups.
+    FileShort,
+    /// 23: a level file's version is not 1.
+    FileVersion,
+    /// 24: a seed of a level file is too large, there are more holes than slots, or a hole does not
+    /// rise or is no slot.
+    FileValue,
+    /// 25: bytes are left over after a level file's last hole.
+    FileLeftOver,
+    /// 26: seeds, holes or bytes have no room for what a level file has.
+    FileRoom,
 }
 
 impl Error {
@@ -76,6 +87,11 @@ impl Error {
             16 => Error::BucketSize,
             17 => Error::Keys,
             21 => Error::TableLength,
+            22 => Error::FileShort,
+            23 => Error::FileVersion,
+            24 => Error::FileValue,
+            25 => Error::FileLeftOver,
+            26 => Error::FileRoom,
             _ => unreachable!("the library answered {number}, which none of its calls does"),
         }
     }
@@ -115,6 +131,14 @@ impl Error {
             }
             Error::Keys => (17, "k above 67,108,864"),
             Error::TableLength => (21, "length 0 or above 131,072"),
+            Error::FileShort => (22, "file ends or a number exceeds 64 bits or ten groups"),
+            Error::FileVersion => (23, "version not 1"),
+            Error::FileValue => (
+                24,
+                "a seed of 2^sb or more, a hole count above m, or a hole not rising or not below m",
+            ),
+            Error::FileLeftOver => (25, "bytes left over after the last hole"),
+            Error::FileRoom => (26, "a lent output too small"),
         }
     }
 }

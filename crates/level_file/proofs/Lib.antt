@@ -12,4 +12,5 @@ mod PutLaws
 mod MeasureLaws
 pub mod WriteLaws
 pub mod Written
+pub mod Room
 mod Sheet

@@ -16,11 +16,11 @@ use Rattle.level_file.specs.Format.{gapsFrom, settingsNumbers, bytesOf, 
 use Rattle.level_file.specs.Writing.{measured}
 use Rattle.level_file.proofs.PutLaws.{drop-as, drop-all}
 
-bytes-cons : (v : ℕ) (vs : List ℕ) → length (bytesOf (v ∷ vs)) ≡ length (encoded v) + length (bytesOf vs)
+pub bytes-cons : (v : ℕ) (vs : List ℕ) → length (bytesOf (v ∷ vs)) ≡ length (encoded v) + length (bytesOf vs)
 unfolding bytesOf
 bytes-cons v vs = length-append (encoded v) (bytesOf vs)
 
-bytes-nil : length (bytesOf []) ≡ 0
+pub bytes-nil : length (bytesOf []) ≡ 0
 unfolding bytesOf
 bytes-nil = refl
 
