@@ -22,7 +22,7 @@ struct lent {
 
 /* n elements of a size, with a guard at either side */
 static struct lent lend(size_t n, size_t size, int fill) {
-    struct lent l = { malloc(n * size + 2 * guards + 1), n * size };
+    struct lent l = { malloc(n * size + 2 * guards), n * size };
     if (!l.all) exit(2);
     memset(l.all, GUARD, guards);
     memset(l.all + guards, fill, l.bytes);

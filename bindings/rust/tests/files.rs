@@ -3,7 +3,7 @@
 
 mod common;
 
-use common::numbers;
+use common::Random;
 use phastr::{Builder, Error, Level, Settings, lent};
 
 const SETTINGS: Settings =
@@ -16,6 +16,11 @@ const FILE: [u8; 14] = [1, 7, 3, 0, 4, 3, 3, 4, 0, 4, 0, 3, 2, 1];
 /// A file with other bytes at a place.
 fn with(at: usize, bytes: &[u8]) -> Vec<u8> {
     [&FILE[..at], bytes, &FILE[at + 1..]].concat()
+}
+
+/// A number in ten groups.
+fn ten_groups(n: u64) -> Vec<u8> {
+    (0..10).map(|i| (n >> (7 * i)) as u8 % 128 + if i < 9 { 128 } else { 0 }).collect()
 }
 
 /// Reads into so many seeds and holes, which held something before.
@@ -81,7 +86,7 @@ fn n1_to_7_once_b_is_read() {
         refused(&with(at, &[value])[..6], number);
         refused(&with(at, &[value])[..5], 22);
     }
-    // 16 slots a layout of five: more than 64 bits; four slices of 2^27 slots a bucket
+    // eight layouts of 16 bits; 2^27 slots in three buckets
     refused(&[1, 7, 16, 3, 4, 3], 4);
     refused(&[1, 0x80, 0x80, 0x80, 0x40, 3, 0, 4, 3], 7);
 }
@@ -96,12 +101,8 @@ fn n24_seeds_and_holes() {
     refused(&with(10, &[7]), 24);
     refused(&with(13, &[2]), 24);
     // differences that would come round to a slot below m
-    for back in [1, 2, 6] {
-        let mut far = (u64::MAX - back).to_le_bytes().to_vec();
-        far = far.iter().rev().fold((0u128, vec![]), |(n, v), &b| (n << 8 | b as u128, v)).0.to_le_bytes().to_vec();
-        let value = u128::from_le_bytes(far.try_into().unwrap());
-        let groups = (0..10).map(|i| ((value >> (7 * i)) % 128) as u8 + if i < 9 { 128 } else { 0 });
-        refused(&with(13, &groups.collect::<Vec<u8>>()), 24);
+    for back in 0..7 {
+        refused(&with(13, &ten_groups(u64::MAX - back)), 24);
     }
 }
 
@@ -146,7 +147,8 @@ fn the_writer_checks_in_order() {
 #[test]
 fn levels_handed_round() {
     for (keys, seed_bits) in [(0, 8), (1, 8), (64, 8), (3000, 8), (3000, 12)] {
-        let hashes: Vec<u64> = numbers(keys).collect();
+        let mut random = Random(keys);
+        let hashes: Vec<u64> = (0..keys).map(|_| random.next()).collect();
         let level = Builder::new().seed_bits(seed_bits).sweep(hashes.clone()).unwrap();
         let bytes = level.to_bytes();
         assert!(bytes.len() <= lent::file_room(level.seeds().len(), level.holes().len()));
