@@ -24,7 +24,11 @@ fn ten_groups(n: u64) -> Vec<u8> {
 }
 
 /// Reads into so many seeds and holes, which held something before.
-fn read(bytes: &[u8], seeds: usize, holes: usize) -> (Result<(Settings, usize), Error>, Vec<u16>, Vec<u32>) {
+fn read(
+    bytes: &[u8],
+    seeds: usize,
+    holes: usize,
+) -> (Result<(Settings, usize), Error>, Vec<u16>, Vec<u32>) {
     let (mut seeds, mut holes) = (vec![9; seeds], vec![9; holes]);
     let answer = lent::read_file(bytes, &mut seeds, &mut holes);
     (answer, seeds, holes)
@@ -41,7 +45,12 @@ fn accepted(bytes: &[u8]) {
     assert!(answer.is_ok(), "{bytes:?}: {answer:?}");
 }
 
-fn written(settings: Settings, seeds: &[u16], holes: &[u32], room: usize) -> (Result<usize, Error>, Vec<u8>) {
+fn written(
+    settings: Settings,
+    seeds: &[u16],
+    holes: &[u32],
+    room: usize,
+) -> (Result<usize, Error>, Vec<u8>) {
     let mut out = vec![9; room];
     (lent::write_file(&settings, seeds, holes, &mut out), out)
 }
