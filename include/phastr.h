@@ -19,8 +19,8 @@
  *
  * Answers. Every call but phastr_house_table answers 0 or one of the numbers below, the first that
  * applies in the order in which the call names them. It writes only what its comment names, and
- * only where it answers 0; phastr_sweep also writes at 14, and the calls on level files leave what they
- * write zero where they answer another number.
+ * only where it answers 0; phastr_sweep also writes at 14, phastr_check_level at 28 to 30, and the calls
+ * on level files leave what they write zero where they answer another number.
  *
  * What a caller owes. Whatever the numbers and the contents of slices are, a call comes back and
  * keeps to what it was lent. The pointers themselves cannot be checked, so the caller sees to it
@@ -72,7 +72,10 @@ enum phastr_number {
     PHASTR_FILE_VALUE = 24,        /* a seed of 2^sb or more, a hole count above m, or a hole not rising
                                       or not below m */
     PHASTR_FILE_LEFT_OVER = 25,    /* bytes left over after the last hole */
-    PHASTR_FILE_ROOM = 26          /* a lent output too small */
+    PHASTR_FILE_ROOM = 26,         /* a lent output too small */
+    PHASTR_BAD_SEED = 28,          /* a seed of 2^sb or more, or a nonzero one for an empty bucket */
+    PHASTR_SLOT_TWICE = 29,        /* a slot met twice */
+    PHASTR_BITMAP = 30             /* bitmap differs */
 };
 
 /* The slot of a hash whose bucket has seed 0: it was bumped, or is empty. */
@@ -202,6 +205,27 @@ uint64_t phastr_level_write(uint64_t m, uint64_t log2_slice_len, uint64_t ll, ui
  */
 uint64_t phastr_level_read(const uint8_t *bytes, size_t bytes_len, uint16_t *seeds, size_t seeds_len,
                            uint32_t *holes, size_t holes_len, uint64_t level[6]);
+
+/*
+ * Checks a finished level, whoever made it, against the grouped hashes it was made from. It accepts
+ * exactly when every seed is below 2^sb, every empty bucket has seed 0, no two keys with a nonzero
+ * seed share a slot, and the bitmap marks just their slots: bits from m on are 0. It does not ask
+ * whether the seeds are the cheapest. Every level that phastr_sweep finishes is accepted.
+ *
+ *   hashes, begins, seeds, bitmap  as phastr_sweep takes and leaves them
+ *   scratch                        as long as the bitmap. What it holds before does not matter.
+ *
+ * Answers 0; 1 to 7, 9 to 11, or 13 where seeds are not B long or bitmap or scratch not ceil(m/64);
+ * 28; 29; or 30. Where it is none of 1 to 13, scratch is 0 afterwards. At 29, *bucket is the lowest
+ * bucket at which, going through the buckets upward, a key meets a slot that an earlier key has;
+ * else *bucket is kept.
+ */
+uint64_t phastr_check_level(uint64_t m, uint64_t log2_slice_len, uint64_t ll, uint64_t sb,
+                            uint64_t buckets, const uint64_t *hashes, size_t hashes_len,
+                            const uint32_t *begins, size_t begins_len,
+                            const uint16_t *seeds, size_t seeds_len,
+                            const uint64_t *bitmap, size_t bitmap_len,
+                            uint64_t *scratch, size_t scratch_len, uint64_t *bucket);
 
 #ifdef __cplusplus
 }

@@ -1,6 +1,6 @@
 /*
  * Levels by way of the library: document 01's listing, and some thousand generated keys in slices of
- * 1,024 slots and in longer ones.
+ * 1,024 slots and in longer ones, checked.
  *
  *   folder=$(tools/library)
  *   cc -std=c99 -Wall -Wextra -Werror -Iinclude examples/c/level.c "$folder/libexports.a" -o level
@@ -214,6 +214,38 @@ static uint64_t hand_round(const struct level *level, const uint32_t *list, uint
     return written;
 }
 
+/* Checks a level against its keys. Answers the number; at 29, *bucket is the one that it names. */
+static uint64_t check(const struct level *level, uint64_t *bucket) {
+    const struct settings s = level->s;
+    uint64_t *scratch = room(level->bitmap_words, sizeof *scratch);
+    uint64_t number = phastr_check_level(
+        s.m, s.log2_slice_len, s.ll, s.sb, s.buckets, level->hashes, (size_t)level->keys,
+        level->begins, (size_t)s.buckets + 1, level->seeds, (size_t)s.buckets, level->bitmap,
+        (size_t)level->bitmap_words, scratch, (size_t)level->bitmap_words, bucket);
+    free(scratch);
+    return number;
+}
+
+/* A level that is sound, and the same with its last seed gone and with its first key twice. */
+static void check_spoilt(struct level *level) {
+    uint64_t bucket = 77, number = check(level, &bucket), last = level->s.buckets;
+    if (number != PHASTR_OK)
+        fail("check", number);
+    while (last > 0 && level->seeds[last - 1] == 0)
+        last--;
+    if (last < 2)
+        return;
+    uint16_t seed = level->seeds[last - 1];
+    level->seeds[last - 1] = 0;
+    printf("without its last seed: refused %" PRIu64, check(level, &bucket));
+    level->seeds[last - 1] = seed;
+    uint64_t first = level->hashes[0];
+    level->hashes[0] = level->hashes[1];
+    number = check(level, &bucket);
+    level->hashes[0] = first;
+    printf("; with a key twice: refused %" PRIu64 ", bucket %" PRIu64 "\n", number, bucket);
+}
+
 /* Some thousand keys: as many slots as keys, and but for the slices PHastR's defaults. */
 static void generated(uint64_t keys, uint64_t log2_slice_len) {
     static const int64_t weights[7] = {-52000, 53315, 105861, 138629, 156944, 175176, 186591};
@@ -236,6 +268,7 @@ static void generated(uint64_t keys, uint64_t log2_slice_len) {
     printf("%" PRIu64 " keys in %" PRIu64 " buckets: %" PRIu64 " placed, %" PRIu64
            " bumped, %" PRIu64 " buckets of seed 0, %" PRIu64 " holes; a file of %" PRIu64 " bytes\n",
            keys, level.s.buckets, level.counts[0], bumped, level.counts[2], count, written);
+    check_spoilt(&level);
     let_go(&level);
 }
 

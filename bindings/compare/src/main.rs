@@ -1,4 +1,4 @@
-//! Sweeps through the Rust binding, held to PHastR's own sweep on the same cases.
+//! Sweeps through the Rust binding, held to PHastR's own sweep on the same cases, whose levels are checked too.
 //!
 //!     compare [SEED]             every setting, the named cases, 20,000 small ones, families of 10^5 and 10^6 keys, and of long slices
 //!     compare long [SEED]        10^6 small cases and a family of 10^7 keys
@@ -16,6 +16,7 @@ mod tally;
 use change::Change;
 use oracle::{Case, cases};
 use ours::Ours;
+use rust::Wanted;
 use std::process::ExitCode;
 use std::time::Instant;
 use tally::Tally;
@@ -50,6 +51,10 @@ impl Run {
         let (began, before) = (Instant::now(), self.tally);
         for case in cases {
             let mut wanted = rust::answer(&case);
+            if let Wanted::Done(level) = &wanted {
+                let marked = self.change.marked(level);
+                self.ours.check(&case, &level.seeds, &marked, &mut self.tally);
+            }
             self.change.make(&mut wanted);
             self.ours.compare(&case, &wanted, &mut self.tally);
         }

@@ -37,7 +37,7 @@ pub enum Error {
     StrayHash,
     /// 12: the logarithm table is too short, or falls.
     Table,
-    /// 13: seeds, bitmap, work or slots have not the length that is wanted.
+    /// 13: seeds, bitmap, work, slots or scratch have not the length that is wanted.
     Lengths,
     /// 14: bumping is forbidden and no seed fits this bucket.
     NoSeed {
@@ -63,10 +63,19 @@ pub enum Error {
     FileLeftOver,
     /// 26: seeds, holes or bytes have no room for what a level file has.
     FileRoom,
+    /// 28: a seed has more than sb bits, or an empty bucket has one that is not 0.
+    BadSeed,
+    /// 29: two keys share a slot.
+    SlotTwice {
+        /// The lowest bucket at which a slot is met that an earlier key has taken.
+        bucket: u64,
+    },
+    /// 30: the bitmap does not mark just the keys' slots.
+    Bitmap,
 }
 
 impl Error {
-    /// The error of a number that the library came back with; 14 has a bucket.
+    /// The error of a number that the library came back with; 14 and 29 have a bucket.
     pub(crate) fn of(number: u64, bucket: u64) -> Error {
         match number {
             1 => Error::SeedBits,
@@ -92,6 +101,9 @@ impl Error {
             24 => Error::FileValue,
             25 => Error::FileLeftOver,
             26 => Error::FileRoom,
+            28 => Error::BadSeed,
+            29 => Error::SlotTwice { bucket },
+            30 => Error::Bitmap,
             _ => unreachable!("the library answered {number}, which none of its calls does"),
         }
     }
@@ -139,6 +151,9 @@ impl Error {
             ),
             Error::FileLeftOver => (25, "bytes left over after the last hole"),
             Error::FileRoom => (26, "a lent output too small"),
+            Error::BadSeed => (28, "a seed of 2^sb or more, or a nonzero one for an empty bucket"),
+            Error::SlotTwice { .. } => (29, "a slot met twice"),
+            Error::Bitmap => (30, "bitmap differs"),
         }
     }
 }
@@ -147,7 +162,9 @@ impl fmt::Display for Error {
     fn fmt(&self, f: &mut fmt::Formatter<'_>) -> fmt::Result {
         write!(f, "refused {}: {}", self.number(), self.words())?;
         match self {
-            Error::NoSeed { bucket } => write!(f, " (bucket {bucket})"),
+            Error::NoSeed { bucket } | Error::SlotTwice { bucket } => {
+                write!(f, " (bucket {bucket})")
+            }
             _ => Ok(()),
         }
     }

@@ -43,7 +43,7 @@ mod table;
 pub use builder::Builder;
 pub use error::Error;
 pub use groups::Groups;
-pub use level::{Holes, Level};
+pub use level::{Holes, Level, check_level};
 pub use settings::{Settings, default_weights};
 pub use table::{HOUSE_ENTRIES, LOG_ENTRIES, house_table, log_table};
 

@@ -8,7 +8,7 @@
 //! writing is lent twice.
 
 use crate::Settings;
-use crate::lent::{Input, Output};
+use crate::lent::{Finished, Input, Output};
 use crate::table::HOUSE_ENTRIES;
 
 // Lengths are passed as size_t, which stands for Rattle's 64-bit usize.
@@ -73,6 +73,25 @@ unsafe extern "C" {
         hashes_len: usize,
         slots: *mut u64,
         slots_len: usize,
+    ) -> u64;
+
+    fn phastr_check_level(
+        m: u64,
+        log2_slice_len: u64,
+        ll: u64,
+        sb: u64,
+        buckets: u64,
+        hashes: *const u64,
+        hashes_len: usize,
+        begins: *const u32,
+        begins_len: usize,
+        seeds: *const u16,
+        seeds_len: usize,
+        bitmap: *const u64,
+        bitmap_len: usize,
+        scratch: *mut u64,
+        scratch_len: usize,
+        bucket: &mut u64,
     ) -> u64;
 
     fn phastr_bucket_count(log2_slice_len: u64, keys: u64, size: f64, count: &mut u64) -> u64;
@@ -192,6 +211,32 @@ pub(crate) fn positions(s: &Settings, seeds: &[u16], hashes: &[u64], slots: &mut
             hashes.len(),
             slots.as_mut_ptr(),
             slots.len(),
+        )
+    }
+}
+
+/// Answers the number; bucket is written at 29.
+pub(crate) fn check(level: &Finished, scratch: &mut [u64], bucket: &mut u64) -> u64 {
+    let [m, log2_slice_len, ll, sb, buckets] = numbers(&level.settings);
+    // SAFETY: each pointer and length is that of one slice; scratch is borrowed for writing.
+    unsafe {
+        phastr_check_level(
+            m,
+            log2_slice_len,
+            ll,
+            sb,
+            buckets,
+            level.hashes.as_ptr(),
+            level.hashes.len(),
+            level.begins.as_ptr(),
+            level.begins.len(),
+            level.seeds.as_ptr(),
+            level.seeds.len(),
+            level.bitmap.as_ptr(),
+            level.bitmap.len(),
+            scratch.as_mut_ptr(),
+            scratch.len(),
+            bucket,
         )
     }
 }
