@@ -3,7 +3,7 @@
 use Prim.Native.Nat.{ℕ, _+_, _-_, _^_, _≤_, _<_}
 use native.Mathlib.Omega.{arith}
 use mathlib.Core.Path.{_≡_, refl, sym, ap, subst, _∙_}
-use mathlib.Core.Bool.{Bool, true, false, not, _&&_}
+use mathlib.Core.Bool.{Bool, false, not, _&&_}
 use mathlib.Core.List.{List, [], _∷_, _++_, append-nil}
 use lib.Dec.{T, ltb, leb, eqb}
 use lib.ListN.{length}
@@ -12,14 +12,12 @@ use borrow.Author.Tests.{lt-ltb, le-ltb, le-leb, lt-leb, ltb-true, leb-true, leb
 use Rattle.rules.specs.declared.Settings.{Settings}
 use Rattle.rules.specs.Numbers.{firstOf, linesTo7}
 use Rattle.rules.specs.Good.{Good}
-use Rattle.rules.specs.Lists.{every}
 use Rattle.rules.proofs.CheckLaws.{good-7}
 use Rattle.rules.proofs.Tests.{is-true, is-false, of-true, of-false, and-left, and-right, and-both}
-use Rattle.house_numbers.specs.Encode.{encoded}
 use Rattle.level_file.specs.Format.{Level, gapsFrom, settingsNumbers, numbersOf, bytesOf, fileOf, notBelow, seedBad, allBut, seedsFine, holesFine, Writable, Front, Decodes, Describes}
 use Rattle.level_file.specs.Reading.{Read, then, refusedIf, refusedBy, gapBad, numberAt, numbersAt, holesAt, settingsAt, checkedAt, headAt, countAt, holePart, bodyAt, readFile}
-use Rattle.level_file.specs.Reading.Read.{Got, No}
-use Rattle.level_file.proofs.DecodesLaws.{decoded-read, decodes-none, decodes-first, decodes-end, decodes-part, Small, bytes-decode}
+use Rattle.level_file.specs.Reading.Read.{Got}
+use Rattle.level_file.proofs.DecodesLaws.{decoded-read, decodes-first, decodes-end, decodes-part, Small, bytes-decode}
 
 -- ---- steps of reading
 

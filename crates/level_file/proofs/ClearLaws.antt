@@ -1,7 +1,7 @@
 -- A buffer that is zeroed from its front on: zeroes so far, and the rest as it was. Assumes nothing.
 use Prim.Native.Nat.{ℕ, _+_, _≤_, _<_}
 use native.Mathlib.Omega.{arith}
-use mathlib.Core.Path.{_≡_, refl, sym, ap, _∙_}
+use mathlib.Core.Path.{_≡_, refl, ap, _∙_}
 use mathlib.Core.List.{List, _++_, append-nil}
 use lib.ListN.{length, replicate, drop, set, length-set, drop-of-length-le}
 use borrow.Author.Fill.{fill-none, fill-more}

@@ -2,7 +2,7 @@
 use Prim.Native.Nat.{ℕ, _+_, _^_, _≤_, _<_}
 use native.Mathlib.Omega.{arith}
 use mathlib.Core.Path.{_≡_, refl, sym, ap, subst, _∙_}
-use mathlib.Core.Bool.{Bool, not}
+use mathlib.Core.Bool.{not}
 use mathlib.Core.List.{List, [], _∷_, _++_, append-assoc}
 use lib.Dec.{T}
 use lib.ListN.{length, length-append}
@@ -18,8 +18,8 @@ use Rattle.level_file.specs.declared.Taken.{Taken}
 use Rattle.level_file.specs.declared.Taken.the-variants as Take
 use Rattle.level_file.specs.Taking.{takenOf, takenAt}
 use Rattle.level_file.specs.Format.{bytesOf, notBelow, allBut, Front, Decodes}
-use Rattle.level_file.specs.Reading.{Read, readOf, numberAt}
-use Rattle.level_file.specs.Reading.Read.{Got, No}
+use Rattle.level_file.specs.Reading.{readOf, numberAt}
+use Rattle.level_file.specs.Reading.Read.{Got}
 
 -- ---- one number, as decoded and as read
 

@@ -2,9 +2,8 @@
 use Prim.Native.Nat.{ℕ, _+_, _-_, _*_, _≤_, _<_}
 use native.Mathlib.Omega.{arith}
 use mathlib.Core.Path.{_≡_, refl, sym, ap, _∙_}
-use mathlib.Core.Bool.{Bool, true, false, cond, not, _&&_}
-use mathlib.Core.List.{List, [], _∷_, _++_}
-use lib.Dec.{ltb, leb}
+use mathlib.Core.Bool.{Bool, true, false, not, _&&_}
+use mathlib.Core.List.{List, [], _∷_}
 use lib.ListN.{length, drop, getD, length-append}
 use borrow.Author.Tests.{lt-ltb, le-ltb, le-leb, lt-leb}
 use Rattle.rules.specs.declared.Settings.{Settings}
@@ -12,7 +11,7 @@ use Rattle.house_numbers.specs.Encode.{encoded}
 use Rattle.house_numbers.specs.EncodeLaws.{length-ten}
 use Rattle.level_file.specs.declared.writing.Measured.{Measured}
 use Rattle.level_file.specs.declared.writing.Measured.the-variants as Size
-use Rattle.level_file.specs.Format.{gapsFrom, settingsNumbers, bytesOf, notBelow, allBut, holesFine}
+use Rattle.level_file.specs.Format.{settingsNumbers, bytesOf, notBelow, allBut, holesFine}
 use Rattle.level_file.specs.Writing.{measured}
 use Rattle.level_file.proofs.PutLaws.{drop-as, drop-all}
 

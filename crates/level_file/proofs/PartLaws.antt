@@ -1,10 +1,10 @@
 -- The parts of a file put together: what is told and left where a part is refused, and where all are read. Assumes nothing.
-use Prim.Native.Nat.{ℕ, zero, suc, _^_, _≤_, _<_}
+use Prim.Native.Nat.{ℕ, _^_, _≤_, _<_}
 use native.Mathlib.Omega.{arith}
 use mathlib.Core.Path.{_≡_, refl, sym, ap, subst, _∙_}
-use mathlib.Core.Bool.{Bool, true, false, cond, not}
+use mathlib.Core.Bool.{not}
 use mathlib.Core.List.{List}
-use lib.Dec.{ltb, eqb}
+use lib.Dec.{eqb}
 use lib.ListN.{length, replicate}
 use borrow.Author.Tests.{lt-ltb, le-ltb}
 use Rattle.rules.specs.declared.Settings.{Settings}
@@ -18,11 +18,10 @@ use Rattle.level_file.specs.declared.reading.Head.the-variants as Top
 use Rattle.level_file.specs.declared.reading.FileRead.{FileRead}
 use Rattle.level_file.specs.declared.reading.FileRead.the-variants as File
 use Rattle.level_file.specs.Format.{Level, notBelow, seedBad, filled}
-use Rattle.level_file.specs.Reading.{Read, then, refusedIf, refusedBy, numberAt, numbersAt, holesAt, countAt, holePart, settingsAt, checkedAt, headAt, bodyAt, readFile, told, Leaves}
+use Rattle.level_file.specs.Reading.{Read, then, refusedIf, numberAt, numbersAt, holesAt, countAt, holePart, settingsAt, checkedAt, headAt, bodyAt, readFile, told, Leaves}
 use Rattle.level_file.specs.Reading.Read.{Got, No}
-use Rattle.rules.specs.Answers.{Said}
 use Rattle.level_file.specs.Answer.{toldHead, toldFile, LeavesSeeds, LeavesHoles, saidRead, readAnswer, seedsAfter, holesAfter}
-use Rattle.level_file.proofs.Accepted.{never, got-value, if-back, by-back, Came, then-back}
+use Rattle.level_file.proofs.Accepted.{never, got-value, if-back, by-back, then-back}
 
 -- ---- what was told says what was read
 

@@ -5,7 +5,7 @@ use native.Mathlib.Numerals.{add-one}
 use native.Mathlib.Nat.{add-zero}
 use mathlib.Core.Path.{_≡_, refl, sym, ap, _∙_}
 use mathlib.Core.List.{List, [], _∷_, _++_}
-use lib.ListN.{length, take, drop, getD, set, length-append, drop-of-length-le}
+use lib.ListN.{length, drop, getD, set, length-append, drop-of-length-le}
 use lib.Seq.{sets, sets-eq, length-sets, drop-cons}
 use Rattle.house_numbers.specs.Encode.{encoded}
 use Rattle.level_file.specs.Format.{gapsFrom, bytesOf, filled}

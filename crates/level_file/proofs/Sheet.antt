@@ -1,13 +1,12 @@
 -- The listing's level as a file, worked by hand, and three files that are refused. Assumes nothing.
-use Prim.Native.Nat.{ℕ}
 use mathlib.Core.Path.{_≡_, refl}
-use mathlib.Core.List.{List, [], _∷_}
+use mathlib.Core.List.{[], _∷_}
 use Rattle.house_numbers.specs.Encode.{groupsIn, encoded}
 use Rattle.house_numbers.specs.Decode.{grownValue, grownTo, grownBy, settled, decodedFrom, decodedAt}
 use Rattle.level_file.specs.Taking.{takenOf, takenAt}
 use Rattle.level_file.specs.Format.{Level, levelOf, gapsFrom, settingsNumbers, numbersOf, bytesOf, fileOf}
-use Rattle.level_file.specs.Reading.{Read, then, refusedIf, readOf, numberAt, headAt, readFile}
-use Rattle.level_file.specs.Reading.Read.{Got, No}
+use Rattle.level_file.specs.Reading.{then, refusedIf, readOf, numberAt, headAt, readFile}
+use Rattle.level_file.specs.Reading.Read.{No}
 
 -- m 7, slice 3, ll 0, sb 4, B 3; seeds 3, 4, 0; holes 0, 3, 5, 6
 abbrev listed : Level

@@ -1,19 +1,19 @@
 -- The writer's number, check by check; that it is 0 exactly where the level can be written and has room; and the parts put together. Assumes nothing.
-use Prim.Native.Nat.{ℕ, suc, _+_, _*_, _^_, _≤_, _<_}
+use Prim.Native.Nat.{ℕ, suc, _+_, _^_, _≤_, _<_}
 use native.Mathlib.Omega.{arith}
-use mathlib.Core.Path.{_≡_, refl, sym, ap, subst, _∙_}
+use mathlib.Core.Path.{_≡_, refl, sym, ap, _∙_}
 use mathlib.Core.Logic.{_≢_}
 use mathlib.Core.Bool.{Bool, true, false, not, _&&_}
-use mathlib.Core.List.{List, [], _∷_, _++_, append-assoc}
+use mathlib.Core.List.{List, [], _∷_, _++_}
 use lib.Dec.{T, ltb, eqb}
 use lib.ListN.{length, replicate, length-append}
 use lib.Seq.{sets}
 use borrow.Author.Tests.{lt-ltb, le-ltb, eq-eqb, ne-eqb, ltb-false, eqb-true, not-false}
 use Rattle.rules.specs.declared.Settings.{Settings}
 use Rattle.rules.specs.Numbers.{Line, line, firstOf, linesTo7}
-use Rattle.rules.specs.Answers.{Said, Answer, Refusal, unless, keptUnless}
+use Rattle.rules.specs.Answers.{Answer, Refusal}
 use Rattle.rules.proofs.Lines.{first-append-some, first-append-zero, first-append-none, first-applies, first-skips, first-none, none-zero}
-use Rattle.rules.proofs.Tests.{is-true, is-false, of-true, of-false, and-left, and-right, and-both}
+use Rattle.rules.proofs.Tests.{is-true, is-false, of-true, of-false, and-left, and-right}
 use Rattle.rules.proofs.CheckLaws.{numbered-7, passes-7, good-7}
 use Rattle.rules.proofs.AnswerLaws.{unless-zero, unless-some, kept-zero, kept-some}
 use Rattle.house_numbers.specs.Encode.{encoded}

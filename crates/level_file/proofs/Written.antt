@@ -1,8 +1,8 @@
 -- The theorem on both calls: where the writer gives a length, the lent bytes begin with that many bytes of a file, beyond which nothing changed, and the reader, lent
 -- room enough, gives back the settings, seeds and holes. Assumes nothing.
 use Prim.Native.Nat.{ℕ, _≤_}
-use mathlib.Core.Path.{_≡_, refl, sym, ap, _∙_}
-use mathlib.Core.List.{List, _++_}
+use mathlib.Core.Path.{_≡_, refl, ap, _∙_}
+use mathlib.Core.List.{List}
 use lib.ListN.{length, take, drop}
 use lib.Seq.{take-at}
 use Rattle.rules.proofs.AnswerLaws.{kept-zero}

@@ -26,7 +26,7 @@ use denote.Signature.{namedLft}
 use denote.Steps.{peeks, heard, nothing}
 use denote.Enum.Laws as EL
 use denote.Struct.Laws as LL
-use denote.Triple.Statement.{Contract, Triple}
+use denote.Triple.Statement.{Triple}
 use denote.Triple.Call.{calls-at}
 use denote.Triple.Entry.{onEntry}
 use denote.Triple.Spec.{Meets, tripleOf}
@@ -37,7 +37,7 @@ use denote.Exit.{yes}
 use Rattle.level_file.specs.Taking.{takenAt}
 use Rattle.level_file.specs.declared.Reader.{Reader}
 use Rattle.level_file.specs.declared.Taken.{Taken}
-use Rattle.level_file.proofs.Lent.{ReaderAt, wordsOf, Whole, Bytes, opened, TakeAt, to-take, take-asks, take-tells}
+use Rattle.level_file.proofs.Lent.{ReaderAt, Whole, Bytes, opened, TakeAt, to-take, take-asks, take-tells}
 use Rattle.level_file.proofs.Reader as T
 use Rattle.level_file.proofs.Reader.Laws as T′
 use Rattle.level_file.proofs.Taken as K

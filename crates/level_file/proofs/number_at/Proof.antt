@@ -38,7 +38,7 @@ use denote.Exit.{yes}
 use Rattle.level_file.specs.Taking.{takenAt}
 use Rattle.level_file.specs.declared.Reader.{Reader}
 use Rattle.level_file.specs.declared.Taken.{Taken}
-use Rattle.level_file.proofs.Lent.{ReaderAt, wordsOf, Whole, Bytes, shut}
+use Rattle.level_file.proofs.Lent.{wordsOf, Whole, Bytes, shut}
 use Rattle.level_file.proofs.Reader.Laws as T′
 use Rattle.level_file.proofs.Taken as K
 use Rattle.level_file.proofs.Taken.Laws as K′

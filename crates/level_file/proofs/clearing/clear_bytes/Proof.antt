@@ -2,7 +2,7 @@
 use Rattle.level_file.proofs.ClearLaws.{Zeroed, zeroed-start, zeroed-step, zeroed-all}
 use borrow.Author.Needs.{needs}
 use native.Mathlib.Omega.{arith}
-use Prim.Native.Nat.{ℕ, _-_}
+use Prim.Native.Nat.{_-_}
 use lib.ListN.{length}
 use Rattle.level_file.proofs.clearing.clear_bytes.Statement.{statement}
 use Rattle.level_file.proofs.clearing.clear_bytes.Tie as tie

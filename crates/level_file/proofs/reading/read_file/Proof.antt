@@ -1,8 +1,7 @@
 -- `read_file`: what was read where it is accepted, and zeroes where it is refused. Assumes nothing.
 use lib.ListN.{length}
 use Rattle.level_file.proofs.PartLaws.{said-read, full-seeds, full-holes, zero-seeds, zero-holes, as-many}
-use native.Mathlib.Omega.{arith}
-use mathlib.Core.Path.{_≡_, refl, sym, ap, _∙_}
+use mathlib.Core.Path.{_≡_, sym, _∙_}
 use borrow.Author.Needs.{needs}
 use Rattle.level_file.proofs.reading.read_file.Statement.{statement}
 use Rattle.level_file.proofs.reading.read_file.Tie as tie

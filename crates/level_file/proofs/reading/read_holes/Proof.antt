@@ -1,11 +1,9 @@
 -- `read_holes`: as `read_seeds`, with the hole before and the least difference as what goes on. Assumes nothing.
 use Rattle.level_file.proofs.FillLaws.{Filling, filling-start, filling-step, filling-refused, filling-void, filling-done, filling-leaves, number-got, number-no, holes-next, holes-low, holes-high, holes-no, holes-start, holes-none}
 use Rattle.level_file.specs.Reading.{holesAt}
-use mathlib.Core.Path.{_≡_, refl, sym, ap, _∙_}
-use lib.ListN.{length}
 use borrow.Author.Needs.{needs}
 use native.Mathlib.Omega.{arith}
-use Prim.Native.Nat.{ℕ, _+_, _-_, _≤_, _<_}
+use Prim.Native.Nat.{_-_, _≤_}
 use Rattle.level_file.proofs.reading.read_holes.Statement.{statement}
 use Rattle.level_file.proofs.reading.read_holes.Tie as tie
 

@@ -1,6 +1,5 @@
 -- `read_lent`: head and body. Assumes nothing.
 use Rattle.level_file.proofs.PartLaws.{level-refused, seeds-void, holes-void, file-good, file-no, file-body, carry-told, carry-seeds, carry-holes}
-use mathlib.Core.Path.{_≡_, refl, sym, ap, _∙_}
 use borrow.Author.Needs.{needs}
 use Rattle.level_file.proofs.reading.read_lent.Statement.{statement}
 use Rattle.level_file.proofs.reading.read_lent.Tie as tie

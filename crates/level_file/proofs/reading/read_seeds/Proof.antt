@@ -2,11 +2,9 @@
 use Rattle.level_file.proofs.FillLaws.{Filling, filling-start, filling-step, filling-refused, filling-void, filling-done, filling-leaves, number-got, number-no, numbers-next, numbers-bad, numbers-no, numbers-start, numbers-none}
 use Rattle.level_file.specs.Format.{notBelow}
 use Rattle.level_file.specs.Reading.{numbersAt}
-use mathlib.Core.Path.{_≡_, refl, sym, ap, _∙_}
-use lib.ListN.{length}
 use borrow.Author.Needs.{needs}
 use native.Mathlib.Omega.{arith}
-use Prim.Native.Nat.{ℕ, _+_, _-_, _≤_, _<_}
+use Prim.Native.Nat.{_-_, _≤_}
 use Rattle.level_file.proofs.reading.read_seeds.Statement.{statement}
 use Rattle.level_file.proofs.reading.read_seeds.Tie as tie
 

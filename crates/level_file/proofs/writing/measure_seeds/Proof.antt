@@ -3,7 +3,7 @@ use Rattle.level_file.proofs.PutLaws.{drop-as, drop-all}
 use Rattle.level_file.proofs.MeasureLaws.{Measuring, measuring-start, measuring-bad, measuring-step, measuring-done, seeds-low, seeds-high, seeds-end}
 use Rattle.level_file.specs.Format.{notBelow, allBut}
 use Rattle.house_numbers.specs.EncodeLaws.{length-ten}
-use mathlib.Core.Path.{refl, ap}
+use mathlib.Core.Path.{ap}
 use borrow.Author.Needs.{needs}
 use native.Mathlib.Omega.{arith}
 use Prim.Native.Nat.{ℕ, _+_, _-_, _*_, _≤_}

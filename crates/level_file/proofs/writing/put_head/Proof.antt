@@ -1,7 +1,6 @@
 -- `put_head`: the version and the settings as a list of numbers. Assumes nothing.
-use Rattle.level_file.specs.Format.{settingsNumbers, bytesOf}
+use Rattle.level_file.specs.Format.{settingsNumbers}
 use native.Mathlib.Omega.{arith}
-use mathlib.Core.Path.{_≡_}
 use borrow.Author.Needs.{needs}
 use Rattle.level_file.proofs.writing.put_head.Statement.{statement}
 use Rattle.level_file.proofs.writing.put_head.Tie as tie

@@ -5,7 +5,7 @@ use Rattle.level_file.specs.Writing.{Climbs}
 use mathlib.Core.Path.{refl}
 use borrow.Author.Needs.{needs}
 use native.Mathlib.Omega.{arith}
-use Prim.Native.Nat.{ℕ, _-_, _≤_}
+use Prim.Native.Nat.{_-_, _≤_}
 use lib.ListN.{length, drop}
 use Rattle.level_file.proofs.writing.put_holes.Statement.{statement}
 use Rattle.level_file.proofs.writing.put_holes.Tie as tie
