@@ -25,7 +25,8 @@
  *
  * Answers. Every call but phastr_house_table answers 0 or one of the numbers below, the first that
  * applies in the order in which the call names them. It writes only what its comment names, and
- * only where it answers 0; phastr_sweep also writes at 14, phastr_check_level at 28 to 30.
+ * only where it answers 0; phastr_sweep also writes at 14, phastr_check_level at 28 to 30, and the calls
+ * on level files leave what they write zero where they answer another number.
  *
  * What a caller owes. Whatever the numbers and the contents of slices are, a call comes back and
  * keeps to what it was lent. The pointers themselves cannot be checked, so the caller sees to it
@@ -85,7 +86,13 @@ enum phastr_number {
     PHASTR_HOLE_BUFFER = 15,
     PHASTR_BUCKET_SIZE = 16,
     PHASTR_KEYS = 17,
+    PHASTR_CHUNKS = 20,
     PHASTR_TABLE_LENGTH = 21,
+    PHASTR_FILE_SHORT = 22,
+    PHASTR_FILE_VERSION = 23,
+    PHASTR_FILE_VALUE = 24,
+    PHASTR_FILE_LEFT_OVER = 25,
+    PHASTR_FILE_ROOM = 26,
     PHASTR_BAD_SEED = 28,
     PHASTR_SLOT_TWICE = 29,
     PHASTR_BITMAP = 30
@@ -131,8 +138,21 @@ static inline const char *phastr_number_words(uint64_t number) {
         return "the bucket size is no number from 1 to 64, or above an eighth of 2^log2_slice_len";
     case PHASTR_KEYS:
         return "there are more than 67,108,864 keys";
+    case PHASTR_CHUNKS:
+        return "chunks is 0";
     case PHASTR_TABLE_LENGTH:
         return "a table has no entries, or more than 131,072";
+    case PHASTR_FILE_SHORT:
+        return "the file ends too early, or has a number of over 64 bits or ten groups";
+    case PHASTR_FILE_VERSION:
+        return "the file's version is not 1";
+    case PHASTR_FILE_VALUE:
+        return "a seed has more than sb bits, there are more holes than slots, or a hole does not rise "
+               "or is no slot";
+    case PHASTR_FILE_LEFT_OVER:
+        return "bytes are left over after the file's last hole";
+    case PHASTR_FILE_ROOM:
+        return "what is lent has no room for the file, or for what it has";
     case PHASTR_BAD_SEED:
         return "a seed has more than sb bits, or an empty bucket has one that is not 0";
     case PHASTR_SLOT_TWICE:
@@ -190,13 +210,16 @@ uint64_t phastr_log_table(uint32_t *table, size_t table_len);
  *            PHastR's for at most 8 bits of a seed: -52000, 53315, 105861, 138629, 156944, 175176,
  *            186591; for more: 46000, 55041, 137806, 184081, 217321, 241846, 256427.
  *   bump     whether a bucket that no seed fits is bumped. If not, it ends the sweep with 14.
+ *   chunks   into how many chunks the buckets may be split: 1 for none of it, and what is too many is
+ *            cut, so that each chunk has at least 4,096 buckets and 64 gaps. Each chunk is swept by
+ *            itself, all but the last a gap short, and then the gaps; what is lent is the same.
  *   hashes   bucket after bucket, in any order within one. Sorted hashes stand so.
  *   begins   B + 1 numbers: bucket b's hashes are those from begins[b] to before begins[b + 1].
  *   table    of logarithms (phastr_house_table, phastr_log_table), as long as phastr_sizes says.
  *   seeds    B of them; bitmap: ceil(m/64) words; work: at least W words (phastr_sizes). What they
  *            hold before does not matter.
  *
- * Answers 0 or 1 to 14.
+ * Answers 0 or the first that applies of 1 to 8, 20 and 9 to 14, in this order.
  * At 0, seeds has one seed to a bucket, 0 for one that is empty or was bumped; bitmap has slot i at
  * bit i mod 64 of word i / 64, set where a key took the slot, and its bits from m on are 0;
  * counts[0] is the keys placed, counts[1] the keys bumped and counts[2] the buckets of seed 0. The
@@ -205,7 +228,7 @@ uint64_t phastr_log_table(uint32_t *table, size_t table_len);
  * and the first W words of work are 0, and counts and work beyond are kept.
  */
 uint64_t phastr_sweep(uint64_t m, uint64_t log2_slice_len, uint64_t ll, uint64_t sb,
-                      uint64_t buckets, const int64_t weights[7], bool bump,
+                      uint64_t buckets, const int64_t weights[7], bool bump, uint64_t chunks,
                       const uint64_t *hashes, size_t hashes_len,
                       const uint32_t *begins, size_t begins_len,
                       const uint32_t *table, size_t table_len,
@@ -244,6 +267,33 @@ uint64_t phastr_positions(uint64_t m, uint64_t log2_slice_len, uint64_t ll, uint
                           uint64_t buckets, const uint16_t *seeds, size_t seeds_len,
                           const uint64_t *hashes, size_t hashes_len,
                           uint64_t *slots, size_t slots_len);
+
+/*
+ * Writes a finished level, without its hashes, as a level file (docs/LEVEL-FILE.md): its settings,
+ * its seeds and the holes that phastr_holes lists.
+ *
+ * Answers 0, 1 to 7, 13 where there is not one seed to a bucket, 24 or 26.
+ * At 0, the file stands at the front of out, out beyond it is kept, and *written is its length: at
+ * most 16 bytes, 3 for each seed and 4 for each hole. At any other number all of out and *written
+ * are 0.
+ */
+uint64_t phastr_level_write(uint64_t m, uint64_t log2_slice_len, uint64_t ll, uint64_t sb,
+                            uint64_t buckets, const uint16_t *seeds, size_t seeds_len,
+                            const uint32_t *holes, size_t holes_len,
+                            uint8_t *out, size_t out_len, uint64_t *written);
+
+/*
+ * Reads a level file. Each number is looked at as it is read.
+ *
+ * Answers 0 or, of the first number that is wrong: 22, 23; 1 to 7 and then 26 once B is read; 24 or
+ * 26; and 25 where all is well but bytes are left over.
+ * At 0, level has m, log2_slice_len, ll, sb, B and the number of holes; seeds has B seeds and holes
+ * the holes, ascending, at their front, and what lies beyond is kept. At any other number all of
+ * seeds, holes and level are 0.
+ * As many seeds and as many holes as the file has bytes are room enough for any whole file.
+ */
+uint64_t phastr_level_read(const uint8_t *bytes, size_t bytes_len, uint16_t *seeds, size_t seeds_len,
+                           uint32_t *holes, size_t holes_len, uint64_t level[6]);
 
 /*
  * Checks a finished level, whoever made it, against the grouped hashes it was made from. It accepts

@@ -1,6 +1,6 @@
 /*
- * Levels by way of the library: document 01's listing, and some thousand generated keys in slices of
- * 1,024 slots and in longer ones, checked.
+ * Levels by way of the library, each checked: document 01's listing, some thousand generated keys in slices
+ * of 1,024 slots and in longer ones, and some more in two chunks.
  *
  *   folder=$(tools/library)
  *   cc -std=c99 -Wall -Wextra -Werror -Iinclude examples/c/level.c "$folder/libphastr.a" -o level
@@ -9,6 +9,7 @@
 #include <inttypes.h>
 #include <stdio.h>
 #include <stdlib.h>
+#include <string.h>
 
 #include "phastr.h"
 
@@ -71,7 +72,7 @@ static void group(struct level *level) {
 }
 
 /* Finds out what the sweep wants lent, lends it, and sweeps. */
-static void sweep(struct level *level, const int64_t weights[7]) {
+static void sweep(struct level *level, const int64_t weights[7], uint64_t chunks) {
     const struct phastr_settings s = level->s;
     uint64_t sizes[3] = {0}, bucket = 0, number;
     number = phastr_sizes(PHASTR_SETTINGS(s), level->largest, sizes);
@@ -85,7 +86,7 @@ static void sweep(struct level *level, const int64_t weights[7]) {
     number = phastr_log_table(table, (size_t)sizes[1]);
     if (number != PHASTR_OK)
         fail("table", number);
-    number = phastr_sweep(PHASTR_SETTINGS(s), weights, true, level->hashes,
+    number = phastr_sweep(PHASTR_SETTINGS(s), weights, true, chunks, level->hashes,
                           (size_t)level->keys, level->begins, (size_t)s.buckets + 1, table,
                           (size_t)sizes[1], level->seeds, (size_t)s.buckets, level->bitmap,
                           (size_t)sizes[2], work, (size_t)sizes[0], level->counts, &bucket);
@@ -146,7 +147,7 @@ static void listing(void) {
     for (int i = 0; i < 3; i++)
         level.hashes[i] = keys[i];
     group(&level);
-    sweep(&level, weights);
+    sweep(&level, weights, 1);
     print_list(&level);
     let_go(&level);
 }
@@ -188,6 +189,32 @@ static uint64_t look_up_all(const struct level *level) {
     return bumped;
 }
 
+/* Writes the level as a file, reads that back and compares. Answers the file's length. */
+static uint64_t hand_round(const struct level *level, const uint32_t *list, uint64_t count) {
+    const struct phastr_settings s = level->s;
+    size_t bytes = (size_t)(16 + 3 * s.buckets + 4 * count);
+    uint8_t *file = room(bytes, 1);
+    uint64_t written = 0, read[6] = {0}, number;
+    number = phastr_level_write(PHASTR_SETTINGS(s), level->seeds, (size_t)s.buckets, list,
+                                (size_t)count, file, bytes, &written);
+    if (number != PHASTR_OK)
+        fail("file written", number);
+    uint16_t *seeds = room(written, sizeof *seeds);
+    uint32_t *again = room(written, sizeof *again);
+    number = phastr_level_read(file, (size_t)written, seeds, (size_t)written, again, (size_t)written, read);
+    if (number != PHASTR_OK)
+        fail("file read", number);
+    if (read[0] != s.m || read[1] != s.log2_slice_len || read[2] != s.ll || read[3] != s.sb ||
+        read[4] != s.buckets || read[5] != count ||
+        memcmp(seeds, level->seeds, (size_t)s.buckets * sizeof *seeds) ||
+        memcmp(again, list, (size_t)count * sizeof *again))
+        wrong("another level was read, of so many holes", read[5]);
+    free(again);
+    free(seeds);
+    free(file);
+    return written;
+}
+
 /* Checks a level against its keys. Answers the number; at 29, *bucket is the one that it names. */
 static uint64_t check(const struct level *level, uint64_t *bucket) {
     const struct phastr_settings s = level->s;
@@ -220,8 +247,8 @@ static void check_spoilt(struct level *level) {
     printf("; with a key twice: refused %" PRIu64 ", bucket %" PRIu64 "\n", number, bucket);
 }
 
-/* Some thousand keys: as many slots as keys, and but for the slices PHastR's defaults. */
-static void generated(uint64_t keys, uint64_t log2_slice_len) {
+/* Generated keys: as many slots as keys, and but for the slices PHastR's defaults. */
+static void generated(uint64_t keys, uint64_t log2_slice_len, uint64_t chunks) {
     static const int64_t weights[7] = {-52000, 53315, 105861, 138629, 156944, 175176, 186591};
     struct level level = {.s = {keys, log2_slice_len, 2, 8, 0}, .keys = keys};
     uint64_t number = phastr_bucket_count(log2_slice_len, keys, 4.25, &level.s.buckets);
@@ -232,14 +259,16 @@ static void generated(uint64_t keys, uint64_t log2_slice_len) {
     for (uint64_t i = 0; i < keys; i++)
         level.hashes[i] = spread(i + 1);
     group(&level);
-    sweep(&level, weights);
-    free(holes(&level, &count));
+    sweep(&level, weights, chunks);
+    uint32_t *list = holes(&level, &count);
+    uint64_t written = hand_round(&level, list, count);
+    free(list);
     uint64_t bumped = look_up_all(&level);
     if (bumped != level.counts[1] || level.counts[0] + bumped != keys || count != bumped)
         wrong("bumped keys miscounted", bumped);
-    printf("%" PRIu64 " keys in %" PRIu64 " buckets: %" PRIu64 " placed, %" PRIu64
-           " bumped, %" PRIu64 " buckets of seed 0, %" PRIu64 " holes\n",
-           keys, level.s.buckets, level.counts[0], bumped, level.counts[2], count);
+    printf("%" PRIu64 " keys in %" PRIu64 " buckets, %" PRIu64 " chunks: %" PRIu64 " placed, %" PRIu64
+           " bumped, %" PRIu64 " buckets of seed 0, %" PRIu64 " holes; a file of %" PRIu64 " bytes\n",
+           keys, level.s.buckets, chunks, level.counts[0], bumped, level.counts[2], count, written);
     check_spoilt(&level);
     let_go(&level);
 }
@@ -248,7 +277,7 @@ static void print_number(uint64_t number) {
     printf("refused %" PRIu64 " (%s), ", number, phastr_number_words(number));
 }
 
-/* Numbers and slices that are refused: nothing is written. */
+/* Numbers and slices that are refused: nothing is written, and of a level file zeros are left. */
 static void refused(void) {
     uint16_t seeds[2] = {1, 1};
     uint64_t slot = 77, number = phastr_lookup(7, 3, 0, 4, 3, seeds, 2, 0, &slot);
@@ -262,6 +291,13 @@ static void refused(void) {
     number = phastr_log_table(&entry, 0);
     print_number(number);
     printf("entry kept at %" PRIu32 "\n", entry);
+    uint8_t file[] = {1, 7, 3, 0, 4, 3, 3, 16};
+    uint32_t hole = 77;
+    uint64_t read[6] = {77, 77, 77, 77, 77, 77};
+    uint16_t three[3] = {77, 77, 77};
+    number = phastr_level_read(file, sizeof file, three, 3, &hole, 1, read);
+    print_number(number);
+    printf("a seed, a hole and m left at %" PRIu16 ", %" PRIu32 ", %" PRIu64 "\n", three[0], hole, read[0]);
 }
 
 /* The house table is the front of a longer one. */
@@ -281,9 +317,11 @@ static void tables(void) {
 
 int main(void) {
     listing();
-    generated(1, 10);
-    generated(5000, 10);
-    generated(40000, 14);
+    generated(1, 10, 1);
+    generated(5000, 10, 1);
+    generated(40000, 14, 1);
+    generated(150000, 10, 1);
+    generated(150000, 10, 2);
     tables();
     refused();
     return 0;

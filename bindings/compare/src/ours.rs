@@ -115,13 +115,18 @@ pub fn compare_owned(case: &Case, bucket_size: f64, wanted: &Wanted, tally: &mut
         .log2_layouts(s.log2_layouts)
         .log2_slice_len(s.log2_slice_len)
         .bucket_size(bucket_size)
-        .slots(s.m as u64);
+        .slots(s.m as u64)
+        .chunks(case.chunks as u64);
     let backwards = case.hashes.iter().rev().copied().collect();
     let level = builder.sweep(backwards).expect("a family lies in the domain");
     tally.cases += 1;
     tally.keys += case.hashes.len() as u64;
     tally.same("settings", level.settings(), settings(case));
-    tally.all_same("counts", &counts_in(level.counts()), &wanted.counts);
+    tally.all_same(
+        "counts",
+        &counts_in(level.counts().expect("the level was swept")),
+        &wanted.counts,
+    );
     tally.all_same("seeds", level.seeds(), &wanted.seeds);
     tally.all_same("bitmap", level.bitmap(), &wanted.bitmap);
     let holes: Vec<u32> = level.holes().map(|hole| u32::try_from(hole).expect("below m")).collect();

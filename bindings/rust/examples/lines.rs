@@ -49,9 +49,9 @@ fn place(lines: &[String]) -> Result<Vec<(u64, u64)>, Box<dyn Error>> {
                 places[at] = (salt, slot);
             }
         }
-        let counts = level.counts();
-        eprintln!("level {salt}: {} keys, {} bumped", left.len(), counts.bumped);
-        left = level.bumped(&hashes).into_iter().map(|i| left[i]).collect();
+        let bumped = level.bumped(&hashes);
+        eprintln!("level {salt}: {} keys, {} bumped", left.len(), bumped.len());
+        left = bumped.into_iter().map(|i| left[i]).collect();
     }
     Err(format!("{} lines are left after {LEVELS} levels", left.len()).into())
 }

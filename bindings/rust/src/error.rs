@@ -55,8 +55,21 @@ pub enum Error {
     BucketSize,
     /// 17: there are more than 67,108,864 keys.
     Keys,
+    /// 20: `chunks` is 0.
+    Chunks,
     /// 21: a table to be filled has no entries, or more than 131,072.
     TableLength,
+    /// 22: a level file ends too early, or has a number of over 64 bits or ten groups.
+    FileShort,
+    /// 23: a level file's version is not 1.
+    FileVersion,
+    /// 24: a seed of a level file has more than `seed_bits` bits, there are more holes than slots, or a
+    /// hole does not rise or is no slot.
+    FileValue,
+    /// 25: bytes are left over after a level file's last hole.
+    FileLeftOver,
+    /// 26: the bytes lent have no room for a level file, or the seeds or holes lent for what one has.
+    FileRoom,
     /// 28: a seed has more than sb bits, or an empty bucket has one that is not 0.
     BadSeed,
     /// 29: two keys share a slot.
@@ -89,7 +102,13 @@ impl Error {
             15 => Error::HoleBuffer,
             16 => Error::BucketSize,
             17 => Error::Keys,
+            20 => Error::Chunks,
             21 => Error::TableLength,
+            22 => Error::FileShort,
+            23 => Error::FileVersion,
+            24 => Error::FileValue,
+            25 => Error::FileLeftOver,
+            26 => Error::FileRoom,
             28 => Error::BadSeed,
             29 => Error::SlotTwice { bucket },
             30 => Error::Bitmap,
@@ -137,7 +156,18 @@ impl Error {
                 (16, "bucket_size is not from 1 to 64, or above an eighth of the slice length")
             }
             Error::Keys => (17, "there are more than 67,108,864 keys"),
+            Error::Chunks => (20, "chunks is 0"),
             Error::TableLength => (21, "a table has no entries, or more than 131,072"),
+            Error::FileShort => {
+                (22, "the file ends too early, or has a number of over 64 bits or ten groups")
+            }
+            Error::FileVersion => (23, "the file's version is not 1"),
+            Error::FileValue => (
+                24,
+                "a seed has more than seed_bits bits, there are more holes than slots, or a hole does not rise or is no slot",
+            ),
+            Error::FileLeftOver => (25, "bytes are left over after the file's last hole"),
+            Error::FileRoom => (26, "what is lent has no room for the file, or for what it has"),
             Error::BadSeed => (
                 28,
                 "a seed has more than seed_bits bits, or an empty bucket has one that is not 0",

@@ -1,10 +1,11 @@
 //! The library's calls over memory that the caller lends, so that it can be used again.
 //!
 //! A call that is refused has written nothing, but for [`Error::NoSeed`], which leaves seeds, bitmap and
-//! work zero, and what [`check`] finds wrong with a level, which leaves its scratch zero.
+//! work zero, what [`check`] finds wrong with a level, which leaves its scratch zero, and the calls on
+//! level files, which leave all that they were lent for writing zero.
 //!
 //! ```
-//! use phastr::{Groups, Settings, lent};
+//! use phastr::{Groups, How, Settings, lent};
 //!
 //! let settings = Settings { slots: 7, log2_slice_len: 3, log2_layouts: 0, seed_bits: 4, buckets: 3 };
 //! let groups = Groups::new(3, vec![1 << 62, (1 << 62) + 3, 1 << 63])?;
@@ -15,7 +16,7 @@
 //! let input = lent::Input {
 //!     settings,
 //!     weights: [2048, 0, 0, 0, 0, 0, 0],
-//!     bump: true,
+//!     how: How::default(),
 //!     hashes: groups.hashes(),
 //!     begins: groups.begins(),
 //!     table: &table,
@@ -37,7 +38,7 @@
 //! # Ok::<(), phastr::Error>(())
 //! ```
 
-use crate::{BUMPED, Counts, Error, Settings, raw};
+use crate::{BUMPED, Counts, Error, How, Settings, raw};
 
 /// What a sweep reads.
 #[derive(Clone, Copy, Debug)]
@@ -47,8 +48,8 @@ pub struct Input<'a> {
     /// The weights of buckets of one to seven keys, each within ±2^32
     /// ([`default_weights`](crate::default_weights) has PHastR's).
     pub weights: [i64; 7],
-    /// Whether a bucket that no seed fits is bumped. If not, it ends the sweep ([`Error::NoSeed`]).
-    pub bump: bool,
+    /// How to sweep: whether a bucket that no seed fits is bumped, and in how many chunks.
+    pub how: How,
     /// The hashes, bucket after bucket ([`Groups`](crate::Groups) brings them into that order).
     pub hashes: &'a [u64],
     /// Where each bucket begins among the hashes, and at last how many there are: B + 1 numbers.
@@ -118,9 +119,10 @@ pub fn sizes(settings: &Settings, largest: u64) -> Result<Sizes, Error> {
 ///
 /// # Errors
 ///
-/// Those of the settings as for [`sizes`], then [`Error::Weights`], [`Error::Begins`],
-/// [`Error::LargeBucket`], [`Error::StrayHash`], [`Error::Table`] and [`Error::Lengths`]: the first
-/// that applies, and nothing is written. [`Error::NoSeed`] where bumping is forbidden.
+/// Those of the settings as for [`sizes`], then [`Error::Weights`], [`Error::Chunks`],
+/// [`Error::Begins`], [`Error::LargeBucket`], [`Error::StrayHash`], [`Error::Table`] and
+/// [`Error::Lengths`]: the first that applies in this order, and nothing is written.
+/// [`Error::NoSeed`] where bumping is forbidden.
 pub fn sweep(input: &Input, output: Output) -> Result<Counts, Error> {
     let (mut counts, mut bucket) = ([0; 3], 0);
     match raw::sweep(input, output, &mut counts, &mut bucket) {
@@ -226,4 +228,73 @@ pub fn bucket_count(log2_slice_len: u32, keys: u64, size: f64) -> Result<u64, Er
 /// ```
 pub fn log_table(table: &mut [u32]) -> Result<(), Error> {
     answer(raw::log_table(table), ())
+}
+
+/// How many bytes are room enough for a level file of so many seeds and holes, whatever they are.
+pub fn file_room(seeds: usize, holes: usize) -> usize {
+    16 + 3 * seeds + 4 * holes
+}
+
+/// Writes a level file (docs/LEVEL-FILE.md of the project) to the front of `out` and answers its
+/// length. What lies beyond is kept. [`file_room`] says how many bytes are room enough.
+///
+/// # Errors
+///
+/// Those of the settings as for [`sizes`], then [`Error::Lengths`] where there is not one seed to a
+/// bucket, [`Error::FileValue`] and [`Error::FileRoom`]. All of `out` is then zero.
+///
+/// # Examples
+///
+/// ```
+/// use phastr::{Settings, lent};
+///
+/// let settings = Settings { slots: 7, log2_slice_len: 3, log2_layouts: 0, seed_bits: 4, buckets: 3 };
+/// let mut out = [9; 20];
+/// let length = lent::write_file(&settings, &[3, 4, 0], &[0, 3, 5, 6], &mut out)?;
+/// assert_eq!(out[..length], [1, 7, 3, 0, 4, 3, 3, 4, 0, 4, 0, 3, 2, 1]);
+/// assert_eq!(out[length..], [9; 6]);
+///
+/// let (mut seeds, mut holes) = ([0; 3], [0; 4]);
+/// assert_eq!(lent::read_file(&out[..length], &mut seeds, &mut holes)?, (settings, 4));
+/// assert_eq!((seeds, holes), ([3, 4, 0], [0, 3, 5, 6]));
+/// # Ok::<(), phastr::Error>(())
+/// ```
+pub fn write_file(
+    settings: &Settings,
+    seeds: &[u16],
+    holes: &[u32],
+    out: &mut [u8],
+) -> Result<usize, Error> {
+    let mut written = 0;
+    let number = raw::level_write(settings, seeds, holes, out, &mut written);
+    answer(number, written as usize)
+}
+
+/// Reads a level file into the front of `seeds` and `holes` and answers its settings and how many
+/// holes there are. What lies beyond is kept. As many of each as there are bytes are room enough for
+/// any whole file. A hole takes 32 bits, as in [`holes`].
+///
+/// # Errors
+///
+/// As each number is read: [`Error::FileShort`], [`Error::FileVersion`], those of the settings as for
+/// [`sizes`] once all five are read, [`Error::FileValue`], and [`Error::FileRoom`] where there are more
+/// seeds or holes than were lent room for; [`Error::FileLeftOver`] where all else is well. All of `seeds`
+/// and `holes` are then zero.
+pub fn read_file(
+    bytes: &[u8],
+    seeds: &mut [u16],
+    holes: &mut [u32],
+) -> Result<(Settings, usize), Error> {
+    let mut level = [0; 6];
+    let number = raw::level_read(bytes, seeds, holes, &mut level);
+    let [slots, log2_slice_len, log2_layouts, seed_bits, buckets, count] = level;
+    // Settings that pass 1 to 7 are small.
+    let settings = Settings {
+        slots,
+        log2_slice_len: log2_slice_len as u32,
+        log2_layouts: log2_layouts as u32,
+        seed_bits: seed_bits as u32,
+        buckets,
+    };
+    answer(number, (settings, count as usize))
 }
