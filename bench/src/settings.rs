@@ -11,8 +11,9 @@ pub struct Named {
 }
 
 /// The defaults first; then one layout over a ring of a word, rings of more words, one layout over the
-/// default slices, many layouts, and the shortest slices.
-pub const ALL: [Named; 7] = [
+/// default slices, many layouts, the shortest slices, and large buckets:
+/// a few of 64 keys and more among the others, half of them, all of them.
+pub const ALL: [Named; 10] = [
     Named { name: "default", setting: cases::DEFAULT, bucket_size: 4.25 },
     Named { name: "word-ring", setting: (6, 0, 8), bucket_size: 4.25 },
     Named { name: "sb-10", setting: (11, 2, 10), bucket_size: 5.75 },
@@ -20,6 +21,9 @@ pub const ALL: [Named; 7] = [
     Named { name: "ll-0", setting: (10, 0, 8), bucket_size: 4.25 },
     Named { name: "ll-4", setting: (4, 4, 8), bucket_size: 2.0 },
     Named { name: "tiny", setting: (3, 0, 4), bucket_size: 1.0 },
+    Named { name: "large-45", setting: cases::DEFAULT, bucket_size: 45.0 },
+    Named { name: "large-64", setting: cases::DEFAULT, bucket_size: 64.0 },
+    Named { name: "large-200", setting: cases::DEFAULT, bucket_size: 200.0 },
 ];
 
 impl Named {

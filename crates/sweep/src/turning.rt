@@ -70,17 +70,16 @@ pub fn take_turns(
     lengths: &mut [u16; 64],
     keys: &mut [i64; 64],
     set: &mut [u64; 16],
-    large: &mut [i64; 256],
     seeds: &mut [u16],
     bitmap: &mut [u64],
     work: &mut [u64],
 ) -> Ended
     requires { ⌜ ring ≡ levelRing (g .settings) ⌝ }
     requires { ⌜ Begun g bump (now hashes) (now begins) (now table) (now weights) lo hi z
-        (state (now queues) (now heads) (now lengths) (now keys) (now set) (now large) (viewAt lo)) (now seeds) (now bitmap) (now work) ⌝ }
+        (state (now queues) (now heads) (now lengths) (now keys) (now set) (viewAt lo)) (now seeds) (now bitmap) (now work) ⌝ }
     ensures { λ r. ⌜ ((i : Input)
         → Starting i g bump (now (hashes .entry)) (now (begins .entry)) (now (table .entry)) (now (weights .entry)) lo hi z
-        (state (now (queues .entry)) (now (heads .entry)) (now (lengths .entry)) (now (keys .entry)) (now (set .entry)) (now (large .entry)) (viewAt lo)) (now (seeds .entry)) (now (bitmap .entry)) (now (work .entry))
+        (state (now (queues .entry)) (now (heads .entry)) (now (lengths .entry)) (now (keys .entry)) (now (set .entry)) (viewAt lo)) (now (seeds .entry)) (now (bitmap .entry)) (now (work .entry))
         → Ending i bump lo hi r (now (seeds .exit)) (now (bitmap .exit))) ⌝ }
 {
     let mut turn: usize = 0;
@@ -92,33 +91,11 @@ pub fn take_turns(
         large: 0,
     };
     loop {
-        let full = refill(
-            queues,
-            heads,
-            lengths,
-            keys,
-            weights,
-            set,
-            large,
-            begins,
-            hi,
-            view,
-        );
+        let full = refill(queues, heads, lengths, keys, weights, set, begins, hi, view);
         if is_empty(full) {
             return Ended::All;
         }
-        let t = take(
-            queues,
-            heads,
-            lengths,
-            keys,
-            weights,
-            set,
-            large,
-            begins,
-            hi,
-            full,
-        );
+        let t = take(queues, heads, lengths, keys, weights, set, begins, hi, full);
         first_slot = advance(g, ring, work, bitmap, first_slot, full.oldest);
         let b = t.bucket;
         let v = serve(g, ring, hashes, begins, table, b, z, seeds, bitmap, work);
@@ -157,7 +134,6 @@ pub fn run(
     let mut lengths = [0u16; 64];
     let mut keys = [0i64; 64];
     let mut set = [0u64; 16];
-    let mut large = [0i64; 256];
     take_turns(
         g,
         ring,
@@ -174,7 +150,6 @@ pub fn run(
         &mut lengths,
         &mut keys,
         &mut set,
-        &mut large,
         seeds,
         bitmap,
         work,
