@@ -19,7 +19,7 @@
  *
  * Answers. Every call but phastr_house_table answers 0 or one of the numbers below, the first that
  * applies in the order in which the call names them. It writes only what its comment names, and
- * only where it answers 0; phastr_sweep also writes at 14.
+ * only where it answers 0; phastr_sweep also writes at 14, phastr_check_level at 28 to 30.
  *
  * What a caller owes. Whatever the numbers and the contents of slices are, a call comes back and
  * keeps to what it was lent. The pointers themselves cannot be checked, so the caller sees to it
@@ -44,7 +44,7 @@
 extern "C" {
 #endif
 
-/* The numbers of document 01, and its words. 18 and 19 are the sweep list program's alone. */
+/* The numbers of documents 01 and 02, and their words. 18 and 19 are the sweep list program's alone. */
 enum phastr_number {
     PHASTR_OK = 0,
     PHASTR_SEED_BITS = 1,          /* sb outside 2..16 */
@@ -64,14 +64,19 @@ enum phastr_number {
     PHASTR_NO_SEED = 14,           /* bumping forbidden and the bucket taken gets 0 */
     PHASTR_HOLE_BUFFER = 15,       /* hole list longer than its buffer */
     PHASTR_BUCKET_SIZE = 16,       /* bucket size not in 1 to min(2^log2_slice_len/8, 64), NaN included */
-    PHASTR_KEYS = 17               /* k above 67,108,864 */
+    PHASTR_KEYS = 17,              /* k above 67,108,864 */
+    PHASTR_TABLE_LENGTH = 21,      /* length 0 or above 131,072 */
+    PHASTR_BAD_SEED = 28,          /* a seed of 2^sb or more, or a nonzero one for an empty bucket */
+    PHASTR_SLOT_TWICE = 29,        /* a slot met twice */
+    PHASTR_BITMAP = 30             /* bitmap differs */
 };
 
 /* The slot of a hash whose bucket has seed 0: it was bumped, or is empty. */
 #define PHASTR_BUMPED UINT64_MAX
 
-/* The entries of the house table. */
+/* The entries of the house table, and of the longest table that phastr_log_table fills. */
 #define PHASTR_HOUSE_ENTRIES 2048
+#define PHASTR_LOG_ENTRIES 131072
 
 /*
  * How many buckets so many keys get at an expected bucket size (PHastR's default 4.25): keys / size,
@@ -93,9 +98,17 @@ uint64_t phastr_sizes(uint64_t m, uint64_t log2_slice_len, uint64_t ll, uint64_t
 /*
  * Writes the house table of logarithms: entry d is 2^24 * log2(d), rounded to nearest, and entry 0
  * is 0. It is long enough for slices of up to 1,024 slots where p (see 7) is at most 928; where
- * phastr_sizes asks for more, lend a longer table that goes on by the same rule.
+ * phastr_sizes asks for more, lend what phastr_log_table fills.
  */
 void phastr_house_table(uint32_t table[PHASTR_HOUSE_ENTRIES]);
+
+/*
+ * Fills a table of logarithms of 1 to PHASTR_LOG_ENTRIES entries by the same rule, in whole numbers;
+ * it begins with the house table, as far as it goes. No settings ask for more than 69,728 entries.
+ *
+ * Answers 0, or 21 where table_len is 0 or above PHASTR_LOG_ENTRIES.
+ */
+uint64_t phastr_log_table(uint32_t *table, size_t table_len);
 
 /*
  * Sweeps a level: finds a seed for each bucket.
@@ -106,7 +119,7 @@ void phastr_house_table(uint32_t table[PHASTR_HOUSE_ENTRIES]);
  *   bump     whether a bucket that no seed fits is bumped. If not, it ends the sweep with 14.
  *   hashes   bucket after bucket, in any order within one. Sorted hashes stand so.
  *   begins   B + 1 numbers: bucket b's hashes are those from begins[b] to before begins[b + 1].
- *   table    of logarithms (phastr_house_table, phastr_sizes).
+ *   table    of logarithms (phastr_house_table, phastr_log_table), as long as phastr_sizes says.
  *   seeds    B of them; bitmap: ceil(m/64) words; work: at least W words (phastr_sizes). What they
  *            hold before does not matter.
  *
@@ -158,6 +171,27 @@ uint64_t phastr_positions(uint64_t m, uint64_t log2_slice_len, uint64_t ll, uint
                           uint64_t buckets, const uint16_t *seeds, size_t seeds_len,
                           const uint64_t *hashes, size_t hashes_len,
                           uint64_t *slots, size_t slots_len);
+
+/*
+ * Checks a finished level, whoever made it, against the grouped hashes it was made from. It accepts
+ * exactly when every seed is below 2^sb, every empty bucket has seed 0, no two keys with a nonzero
+ * seed share a slot, and the bitmap marks just their slots: bits from m on are 0. It does not ask
+ * whether the seeds are the cheapest. Every level that phastr_sweep finishes is accepted.
+ *
+ *   hashes, begins, seeds, bitmap  as phastr_sweep takes and leaves them
+ *   scratch                        as long as the bitmap. What it holds before does not matter.
+ *
+ * Answers 0; 1 to 7, 9 to 11, or 13 where seeds are not B long or bitmap or scratch not ceil(m/64);
+ * 28; 29; or 30. Where it is none of 1 to 13, scratch is 0 afterwards. At 29, *bucket is the lowest
+ * bucket at which, going through the buckets upward, a key meets a slot that an earlier key has;
+ * else *bucket is kept.
+ */
+uint64_t phastr_check_level(uint64_t m, uint64_t log2_slice_len, uint64_t ll, uint64_t sb,
+                            uint64_t buckets, const uint64_t *hashes, size_t hashes_len,
+                            const uint32_t *begins, size_t begins_len,
+                            const uint16_t *seeds, size_t seeds_len,
+                            const uint64_t *bitmap, size_t bitmap_len,
+                            uint64_t *scratch, size_t scratch_len, uint64_t *bucket);
 
 #ifdef __cplusplus
 }

@@ -1,4 +1,5 @@
-"""Document 01 word by word: rules G, W and S with every candidate tried against a set of taken slots, the numbers, and the program."""
+"""Documents 01 and 02 word by word: rules G, W and S with every candidate tried against a set of taken slots, the numbers, the program, the check of a
+level, and tables of logarithms."""
 from collections import namedtuple
 from decimal import Decimal, getcontext
 from itertools import accumulate, chain
@@ -7,7 +8,17 @@ getcontext().prec = 40
 Settings = namedtuple("Settings", "m slice ll sb buckets")
 WORD = 2**64
 
-HOUSE = [0] + [round(2**24 * Decimal(d).ln() / Decimal(2).ln()) for d in range(1, 2048)]
+
+# the house table, and 02, 4/14: a longer one
+def log_table(entries):
+    """21, or entry d = 2^24 log2 d rounded to nearest for each d, entry 0 = 0."""
+    if not 1 <= entries <= 131_072:
+        return 21
+    unit = 2**24 / Decimal(2).ln()
+    return [0] + [round(unit * Decimal(d).ln()) for d in range(1, entries)]
+
+
+HOUSE = log_table(2048)
 
 
 def power_from(x):
@@ -114,6 +125,22 @@ def number_to_7(s):
     return 7 if Geometry(s).p > 4096 else 0
 
 
+# the numbers 9 to 11, or 0
+def number_of_groups(g, hashes, begins):
+    buckets = g.s.buckets
+    if len(begins) != buckets + 1 or begins[0] != 0 or begins != sorted(begins) or begins[-1] != len(hashes):
+        return 9
+    if len(hashes) > 67_108_864:
+        return 9
+    if max(y - x for x, y in zip(begins, begins[1:])) > 4096:
+        return 10
+    return 11 if any(g.bucket(h) != b for b, keys in enumerate(grouped(hashes, begins)) for h in keys) else 0
+
+
+def grouped(hashes, begins):
+    return [hashes[x:y] for x, y in zip(begins, begins[1:])]
+
+
 # the numbers 1 to 13, or 0
 def number(s, weights, hashes, begins, table, seeds, bitmap, work):
     if number_to_7(s):
@@ -121,20 +148,39 @@ def number(s, weights, hashes, begins, table, seeds, bitmap, work):
     g = Geometry(s)
     if any(abs(w) > 2**32 for w in weights):
         return 8
-    if len(begins) != s.buckets + 1 or begins[0] != 0 or begins != sorted(begins) or begins[-1] != len(hashes):
-        return 9
-    if len(hashes) > 67_108_864:
-        return 9
-    sizes = [y - x for x, y in zip(begins, begins[1:])]
-    if max(sizes) > 4096:
-        return 10
-    if any(g.bucket(h) != b for b in range(s.buckets) for h in hashes[begins[b] : begins[b + 1]]):
-        return 11
+    if number_of_groups(g, hashes, begins):
+        return number_of_groups(g, hashes, begins)
     if len(table) < g.entries or table[: g.entries] != sorted(table[: g.entries]):
         return 12
-    if seeds != s.buckets or bitmap != -(-s.m // 64) or work < g.work(max(sizes)):
+    if seeds != s.buckets or bitmap != -(-s.m // 64) or work < g.work(max(map(len, grouped(hashes, begins)))):
         return 13
     return 0
+
+
+# 02, 8/14: the check of a level
+def first_checks(s, hashes, begins, seeds, bitmap, scratch):
+    """The numbers 1 to 7, 9 to 11, 13, or 0."""
+    if number_to_7(s):
+        return number_to_7(s)
+    words = -(-s.m // 64)
+    return number_of_groups(Geometry(s), hashes, begins) or 13 * ((len(seeds), len(bitmap), scratch) != (s.buckets, words, words))
+
+
+def check(s, hashes, begins, seeds, bitmap, scratch):
+    """The number, or 0 where the level is accepted, and the bucket that 29 names."""
+    said = first_checks(s, hashes, begins, seeds, bitmap, scratch)
+    if said:
+        return said, None
+    g, groups, taken = Geometry(s), grouped(hashes, begins), set()
+    if any(seed >= 2**s.sb or (seed and not keys) for seed, keys in zip(seeds, groups)):
+        return 28, None
+    for b, keys in enumerate(groups):
+        for h in keys if seeds[b] else []:
+            if g.position(h, seeds[b]) in taken:
+                return 29, b
+            taken.add(g.position(h, seeds[b]))
+    marked = {64 * i + j for i, word in enumerate(bitmap) for j in range(64) if word >> j & 1}
+    return (0 if marked == taken else 30), None
 
 
 # the program

@@ -2,7 +2,7 @@
 
 use compare::{input, settings};
 use oracle::{Case, log2_table, lookups};
-use phastr::lent::{self, Output};
+use phastr::lent::{self, Finished, Output};
 use phastr::{BUMPED, Counts, Error};
 use std::hint::black_box;
 
@@ -18,14 +18,24 @@ pub enum Job {
     Lookups,
     /// All keys looked up, a call for each.
     Single,
+    /// The swept level checked.
+    Check,
 }
 
-pub const JOBS: [(&str, Job); 5] = [
+impl Job {
+    /// Whether the Rust has this job to itself.
+    pub fn of_both(self) -> bool {
+        !matches!(self, Job::Checks | Job::Check)
+    }
+}
+
+pub const JOBS: [(&str, Job); 6] = [
     ("sweep", Job::Sweep),
     ("checks", Job::Checks),
     ("holes", Job::Holes),
     ("lookups", Job::Lookups),
     ("single", Job::Single),
+    ("check", Job::Check),
 ];
 
 /// A family of keys and all that both sides need. Our buffers hold what the last job left in them; the
@@ -38,11 +48,12 @@ pub struct Bench {
     work: Vec<u64>,
     holes: Vec<u32>,
     slots: Vec<u64>,
+    scratch: Vec<u64>,
     found: Vec<Option<usize>>,
 }
 
 impl Bench {
-    /// The buffers, and the level that holes and lookups are asked about.
+    /// The buffers, and the level that all but sweeps are about.
     pub fn new(case: Case, job: Job) -> Bench {
         let sizes = lent::sizes(&settings(&case), case.largest() as u64).expect("good settings");
         let keys = case.hashes.len();
@@ -53,6 +64,7 @@ impl Bench {
             work: vec![0; sizes.work],
             holes: vec![0; case.settings.m],
             slots: vec![0; keys],
+            scratch: vec![0; sizes.bitmap],
             found: vec![None; keys],
             case,
         };
@@ -68,6 +80,13 @@ impl Bench {
         lent::sweep(&input, Output { seeds, bitmap, work: &mut self.work[..words] })
     }
 
+    fn check(&mut self) -> Result<(), Error> {
+        let (hashes, begins) = (&self.case.hashes[..], &self.case.begins[..]);
+        let (seeds, bitmap) = (&self.seeds[..], &self.bitmap[..]);
+        let level = Finished { settings: settings(&self.case), hashes, begins, seeds, bitmap };
+        lent::check(&level, &mut self.scratch)
+    }
+
     /// Our side of a job.
     pub fn ours(&mut self, job: Job) {
         let words = self.work.len();
@@ -81,6 +100,7 @@ impl Bench {
             Job::Lookups => {
                 lent::lookup_all(&s, &self.seeds, &self.case.hashes, &mut self.slots).unwrap();
             }
+            Job::Check => black_box(self.check()).unwrap(),
             Job::Single => {
                 for (slot, &hash) in self.slots.iter_mut().zip(&self.case.hashes) {
                     *slot = lent::lookup(&s, &self.seeds, hash).unwrap().unwrap_or(BUMPED);
@@ -89,12 +109,12 @@ impl Bench {
         }
     }
 
-    /// The Rust's side of a job. It has no checks to itself.
+    /// The Rust's side of a job, where it has one.
     pub fn rust(&mut self, job: Job) {
         let s = &self.case.settings;
         match job {
             Job::Sweep => assert!(black_box(oracle::swept(&self.case, 1)).is_some()),
-            Job::Checks => {}
+            Job::Checks | Job::Check => {}
             Job::Holes => {
                 black_box(oracle::holes(&self.bitmap, s.m));
             }

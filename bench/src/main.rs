@@ -33,7 +33,7 @@ fn times(keys: usize) -> Result<(), String> {
         }
         for (name, job) in JOBS.into_iter().filter(|&(_, job)| job != Job::Checks) {
             let ours = best(|| bench.ours(job)) / keys as f64;
-            let rust = best(|| bench.rust(job)) / keys as f64;
+            let rust = if job.of_both() { best(|| bench.rust(job)) / keys as f64 } else { 0.0 };
             println!("{name} {} {keys} {ours:.2} {rust:.2}", named.name);
         }
     }

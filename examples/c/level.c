@@ -1,5 +1,6 @@
 /*
- * Two levels by way of the library: document 01's listing, and some thousand generated keys.
+ * Levels by way of the library: document 01's listing, and some thousand generated keys in slices of
+ * 1,024 slots and in longer ones, checked.
  *
  *   folder=$(tools/library)
  *   cc -std=c99 -Wall -Wextra -Werror -Iinclude examples/c/level.c "$folder/libexports.a" -o level
@@ -79,11 +80,13 @@ static void sweep(struct level *level, const int64_t weights[7]) {
     level->seeds = room(s.buckets, sizeof *level->seeds);
     level->bitmap = room(sizes[2], sizeof *level->bitmap);
     uint64_t *work = room(sizes[0], sizeof *work);
-    uint32_t *table = room(PHASTR_HOUSE_ENTRIES, sizeof *table);
-    phastr_house_table(table);
+    uint32_t *table = room(sizes[1], sizeof *table);
+    number = phastr_log_table(table, (size_t)sizes[1]);
+    if (number != PHASTR_OK)
+        fail("table", number);
     number = phastr_sweep(s.m, s.log2_slice_len, s.ll, s.sb, s.buckets, weights, true, level->hashes,
                           (size_t)level->keys, level->begins, (size_t)s.buckets + 1, table,
-                          PHASTR_HOUSE_ENTRIES, level->seeds, (size_t)s.buckets, level->bitmap,
+                          (size_t)sizes[1], level->seeds, (size_t)s.buckets, level->bitmap,
                           (size_t)sizes[2], work, (size_t)sizes[0], level->counts, &bucket);
     if (number != PHASTR_OK)
         fail("sweep", number);
@@ -184,11 +187,44 @@ static uint64_t look_up_all(const struct level *level) {
     return bumped;
 }
 
-/* Some thousand keys at PHastR's defaults: as many slots as keys, buckets of 4.25 keys. */
-static void generated(uint64_t keys) {
+/* Checks a level against its keys. Answers the number; at 29, *bucket is the one that it names. */
+static uint64_t check(const struct level *level, uint64_t *bucket) {
+    const struct settings s = level->s;
+    uint64_t *scratch = room(level->bitmap_words, sizeof *scratch);
+    uint64_t number = phastr_check_level(
+        s.m, s.log2_slice_len, s.ll, s.sb, s.buckets, level->hashes, (size_t)level->keys,
+        level->begins, (size_t)s.buckets + 1, level->seeds, (size_t)s.buckets, level->bitmap,
+        (size_t)level->bitmap_words, scratch, (size_t)level->bitmap_words, bucket);
+    free(scratch);
+    return number;
+}
+
+/* A level that is sound, and the same with its last seed gone and with its first key twice. */
+static void check_spoilt(struct level *level) {
+    uint64_t bucket = 77, number = check(level, &bucket), last = level->s.buckets;
+    if (number != PHASTR_OK)
+        fail("check", number);
+    while (last > 0 && level->seeds[last - 1] == 0)
+        last--;
+    if (last < 2)
+        return;
+    uint16_t seed = level->seeds[last - 1];
+    level->seeds[last - 1] = 0;
+    printf("without its last seed: refused %" PRIu64, check(level, &bucket));
+    level->seeds[last - 1] = seed;
+    uint64_t first = level->hashes[0];
+    level->hashes[0] = level->hashes[1];
+    number = check(level, &bucket);
+    level->hashes[0] = first;
+    printf("; with a key twice: refused %" PRIu64 ", bucket %" PRIu64 "\n", number, bucket);
+}
+
+/* Some thousand keys: as many slots as keys, and but for the slices PHastR's defaults. */
+static void generated(uint64_t keys, uint64_t log2_slice_len) {
     static const int64_t weights[7] = {-52000, 53315, 105861, 138629, 156944, 175176, 186591};
-    struct level level = {.s = {keys, 10, 2, 8, 0}, .keys = keys};
-    uint64_t number = phastr_bucket_count(10, keys, 4.25, &level.s.buckets), count = 0;
+    struct level level = {.s = {keys, log2_slice_len, 2, 8, 0}, .keys = keys};
+    uint64_t number = phastr_bucket_count(log2_slice_len, keys, 4.25, &level.s.buckets);
+    uint64_t count = 0;
     if (number != PHASTR_OK)
         fail("bucket count", number);
     level.hashes = room(keys, sizeof *level.hashes);
@@ -203,6 +239,7 @@ static void generated(uint64_t keys) {
     printf("%" PRIu64 " keys in %" PRIu64 " buckets: %" PRIu64 " placed, %" PRIu64
            " bumped, %" PRIu64 " buckets of seed 0, %" PRIu64 " holes\n",
            keys, level.s.buckets, level.counts[0], bumped, level.counts[2], count);
+    check_spoilt(&level);
     let_go(&level);
 }
 
@@ -214,12 +251,32 @@ static void refused(void) {
     uint64_t count = 77;
     number = phastr_bucket_count(10, 100, 64.5, &count);
     printf("refused %" PRIu64 ", count kept at %" PRIu64 "\n", number, count);
+    uint32_t entry = 77;
+    number = phastr_log_table(&entry, 0);
+    printf("refused %" PRIu64 ", entry kept at %" PRIu32 "\n", number, entry);
+}
+
+/* The house table is the front of a longer one. */
+static void tables(void) {
+    uint32_t house[PHASTR_HOUSE_ENTRIES];
+    uint32_t *table = room(PHASTR_LOG_ENTRIES, sizeof *table);
+    uint64_t number = phastr_log_table(table, PHASTR_LOG_ENTRIES);
+    if (number != PHASTR_OK)
+        fail("table", number);
+    phastr_house_table(house);
+    for (size_t d = 0; d < PHASTR_HOUSE_ENTRIES; d++)
+        if (table[d] != house[d])
+            fail("another house table at entry", d);
+    printf("entries %" PRIu32 " %" PRIu32 " %" PRIu32 "\n", table[3], table[2047], table[131071]);
+    free(table);
 }
 
 int main(void) {
     listing();
-    generated(1);
-    generated(5000);
+    generated(1, 10);
+    generated(5000, 10);
+    generated(40000, 14);
+    tables();
     refused();
     return 0;
 }

@@ -16,6 +16,8 @@ pub enum Change {
     Slot,
     Single,
     Bucket,
+    /// A bit of a bitmap that is checked.
+    Checked,
 }
 
 impl Change {
@@ -28,6 +30,7 @@ impl Change {
             "slot" => Change::Slot,
             "single" => Change::Single,
             "bucket" => Change::Bucket,
+            "checked" => Change::Checked,
             _ => return None,
         })
     }
@@ -47,6 +50,15 @@ impl Change {
         }
     }
 
+    /// The bitmap that is checked: the level's own, but for a bit if that is the change.
+    pub fn marked(&mut self, level: &Level) -> Vec<u64> {
+        let mut marked = level.bitmap.clone();
+        if *self == Change::Checked && marked.last_mut().is_some_and(add_one) {
+            *self = Change::Made;
+        }
+        marked
+    }
+
     fn make_in(self, level: &mut Level) -> bool {
         match self {
             Change::Seed => level.seeds.last_mut().is_some_and(|seed| {
@@ -61,7 +73,7 @@ impl Change {
             Change::Count => level.counts.last_mut().is_some_and(add_one),
             Change::Slot => level.slots.last_mut().is_some_and(add_one),
             Change::Single => level.singles.last_mut().is_some_and(add_one),
-            Change::None | Change::Made | Change::Bucket => false,
+            Change::None | Change::Made | Change::Bucket | Change::Checked => false,
         }
     }
 }

@@ -1,6 +1,6 @@
-//! Sweeps through the Rust binding, held to PHastR's own sweep on the same cases.
+//! Sweeps through the Rust binding, held to PHastR's own sweep on the same cases, whose levels are checked too.
 //!
-//!     compare [SEED]             every setting, the named cases, 20,000 small ones, families of 10^5 and 10^6 keys
+//!     compare [SEED]             every setting, the named cases, 20,000 small ones, families of 10^5 and 10^6 keys, and of long slices
 //!     compare long [SEED]        10^6 small cases and a family of 10^7 keys
 //!     compare changed KIND       every setting, with one number of the Rust's changed: one difference must be found
 //!
@@ -16,6 +16,7 @@ mod tally;
 use change::Change;
 use oracle::{Case, cases};
 use ours::Ours;
+use rust::Wanted;
 use std::process::ExitCode;
 use std::time::Instant;
 use tally::Tally;
@@ -26,6 +27,11 @@ const SMALL_LONG: usize = 1_000_000;
 
 /// PHastR's defaults, and seeds of 10 bits on slices of 2,048 with the bucket size they are tuned for.
 const FAMILIES: [(cases::Setting, f64); 2] = [(cases::DEFAULT, 4.25), ((11, 2, 10), 5.75)];
+
+/// The slices that want a longer table than the house table, by their logarithm, and a family's keys for them: more than
+/// the longest slice has slots.
+const LONG_SLICES: std::ops::RangeInclusive<u32> = 11..=16;
+const LONG_SLICES_KEYS: usize = 150_000;
 
 /// A run: the seed of its cases, the memory it lends, what it found, what is still to be changed.
 struct Run {
@@ -45,6 +51,10 @@ impl Run {
         let (began, before) = (Instant::now(), self.tally);
         for case in cases {
             let mut wanted = rust::answer(&case);
+            if let Wanted::Done(level) = &wanted {
+                let marked = self.change.marked(level);
+                self.ours.check(&case, &level.seeds, &marked, &mut self.tally);
+            }
             self.change.make(&mut wanted);
             self.ours.compare(&case, &wanted, &mut self.tally);
         }
@@ -54,7 +64,7 @@ impl Run {
     /// A family of so many keys, once more through the calls that own their memory.
     fn family(&mut self, keys: usize, (setting, size): (cases::Setting, f64)) {
         let case = cases::family_of(self.seed, keys, keys, size, setting);
-        let what = format!("family of {keys} keys, sb {}", setting.2);
+        let what = format!("family of {keys} keys, slices of 2^{}, sb {}", setting.0, setting.2);
         self.compare(&what, std::iter::once(case.clone()));
         let (began, before) = (Instant::now(), self.tally);
         ours::compare_owned(&case, size, &rust::answer(&case), &mut self.tally);
@@ -76,6 +86,9 @@ impl Run {
         self.compare("small", cases::small(self.seed ^ 2, SMALL));
         for keys in [100_000, 1_000_000] {
             FAMILIES.into_iter().for_each(|family| self.family(keys, family));
+        }
+        for log2_slice_len in LONG_SLICES {
+            self.family(LONG_SLICES_KEYS, ((log2_slice_len, 2, 8), 4.25));
         }
     }
 

@@ -1,9 +1,8 @@
 //! What the binding works out beside sweeps: PHastR's weights, the logarithm table, bucket counts.
 
-use crate::ours::LONGEST_TABLE;
 use crate::tally::Tally;
 use oracle::random::Random;
-use phastr::{default_weights, lent, log_table};
+use phastr::{LOG_ENTRIES, default_weights, lent, log_table};
 
 /// The most keys of a level.
 const MOST_KEYS: usize = 67_108_864;
@@ -15,7 +14,8 @@ pub fn compare(seed: u64, tally: &mut Tally) {
     for seed_bits in 2..=16 {
         tally.all_same("weights", &default_weights(seed_bits), &oracle::default_weights(seed_bits));
     }
-    tally.all_same("table", &log_table(LONGEST_TABLE), &oracle::log2_table(LONGEST_TABLE));
+    let table = log_table(LOG_ENTRIES).expect("the longest table is made");
+    tally.all_same("table", &table, &oracle::log2_table(LOG_ENTRIES));
     let mut random = Random(seed);
     for _ in 0..COUNTS {
         let limit = limit(&mut random);

@@ -4,11 +4,11 @@ use crate::rust::{Level, SINGLE, Wanted};
 use crate::tally::Tally;
 use compare::{input, settings};
 use oracle::{Case, log2_table};
-use phastr::lent::{self, Output};
+use phastr::lent::{self, Finished, Output};
 use phastr::{BUMPED, Builder, Counts, Error};
 
 /// The entries of the longest table that any settings ask for.
-pub const LONGEST_TABLE: usize = 95 + 4097 + 65_536;
+const LONGEST_TABLE: usize = 95 + 4097 + 65_536;
 
 /// What stands in lent memory where the last case has left nothing.
 const RUBBISH: u64 = 0xA5A5_A5A5_A5A5_A5A5;
@@ -22,6 +22,7 @@ pub struct Ours {
     work: Vec<u64>,
     holes: Vec<u32>,
     slots: Vec<u64>,
+    scratch: Vec<u64>,
 }
 
 impl Ours {
@@ -33,6 +34,7 @@ impl Ours {
             work: vec![],
             holes: vec![],
             slots: vec![],
+            scratch: vec![],
         }
     }
 
@@ -58,6 +60,16 @@ impl Ours {
             }
         }
         tally.same("zeros in work", self.work.iter().all(|&w| w == 0), true);
+    }
+
+    /// Checks the Rust's level of a case, which must be accepted.
+    pub fn check(&mut self, case: &Case, seeds: &[u16], bitmap: &[u64], tally: &mut Tally) {
+        self.scratch.resize(bitmap.len(), RUBBISH);
+        let (hashes, begins) = (&case.hashes[..], &case.begins[..]);
+        let level = Finished { settings: settings(case), hashes, begins, seeds, bitmap };
+        let answer = lent::check(&level, &mut self.scratch);
+        tally.same("check of the Rust's level", answer, Ok(()));
+        tally.same("zeros in scratch", self.scratch.iter().all(|&w| w == 0), true);
     }
 
     fn sweep(&mut self, case: &Case) -> Result<Counts, Error> {

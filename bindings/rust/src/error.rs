@@ -1,9 +1,9 @@
-//! Document 01's numbers as an error.
+//! The documents' numbers as an error.
 
 use std::fmt;
 
-/// Why a call was refused: one of document 01's numbers. [`Error::number`] gives the number, and
-/// its text the number and the document's words.
+/// Why a call was refused: one of the documents' numbers. [`Error::number`] gives the number, and
+/// its text the number and the documents' words.
 ///
 /// ```
 /// let error = phastr::lent::bucket_count(10, 100, 0.5).unwrap_err();
@@ -37,7 +37,7 @@ pub enum Error {
     StrayHash,
     /// 12: the logarithm table is too short, or falls.
     Table,
-    /// 13: seeds, bitmap, work or slots have not the length that is wanted.
+    /// 13: seeds, bitmap, work, slots or scratch have not the length that is wanted.
     Lengths,
     /// 14: bumping is forbidden and no seed fits this bucket.
     NoSeed {
@@ -50,10 +50,21 @@ pub enum Error {
     BucketSize,
     /// 17: there are more than 67,108,864 keys.
     Keys,
+    /// 21: a table to be filled has no entries, or more than 131,072.
+    TableLength,
+    /// 28: a seed has more than sb bits, or an empty bucket has one that is not 0.
+    BadSeed,
+    /// 29: two keys share a slot.
+    SlotTwice {
+        /// The lowest bucket at which a slot is met that an earlier key has taken.
+        bucket: u64,
+    },
+    /// 30: the bitmap does not mark just the keys' slots.
+    Bitmap,
 }
 
 impl Error {
-    /// The error of a number that the library came back with; 14 has a bucket.
+    /// The error of a number that the library came back with; 14 and 29 have a bucket.
     pub(crate) fn of(number: u64, bucket: u64) -> Error {
         match number {
             1 => Error::SeedBits,
@@ -73,65 +84,63 @@ impl Error {
             15 => Error::HoleBuffer,
             16 => Error::BucketSize,
             17 => Error::Keys,
+            21 => Error::TableLength,
+            28 => Error::BadSeed,
+            29 => Error::SlotTwice { bucket },
+            30 => Error::Bitmap,
             _ => unreachable!("the library answered {number}, which none of its calls does"),
         }
     }
 
-    /// Document 01's number.
+    /// The documents' number.
     pub fn number(&self) -> u64 {
+        self.said().0
+    }
+
+    /// The documents' words for the number.
+    pub fn words(&self) -> &'static str {
+        self.said().1
+    }
+
+    fn said(&self) -> (u64, &'static str) {
         match self {
-            Error::SeedBits => 1,
-            Error::Layouts => 2,
-            Error::SliceLen => 3,
-            Error::LayoutBits => 4,
-            Error::Slots => 5,
-            Error::Buckets => 6,
-            Error::SlicesPerBucket => 7,
-            Error::Weights => 8,
-            Error::Begins => 9,
-            Error::LargeBucket => 10,
-            Error::StrayHash => 11,
-            Error::Table => 12,
-            Error::Lengths => 13,
-            Error::NoSeed { .. } => 14,
-            Error::HoleBuffer => 15,
-            Error::BucketSize => 16,
-            Error::Keys => 17,
+            Error::SeedBits => (1, "sb outside 2..16"),
+            Error::Layouts => (2, "ll ≥ sb"),
+            Error::SliceLen => (3, "log2_slice_len outside 3..16"),
+            Error::LayoutBits => (4, "ll > 6, or log2_slice_len·2^ll > 64"),
+            Error::Slots => (5, "m outside 1..134,217,728"),
+            Error::Buckets => (6, "B even or above 67,108,865 (0 is even)"),
+            Error::SlicesPerBucket => (7, "p > 4,096"),
+            Error::Weights => (8, "a weight beyond ±2^32"),
+            Error::Begins => (
+                9,
+                "begins not B+1 long, not starting at 0, falling, or not ending at the hash count; or more than 67,108,864 hashes",
+            ),
+            Error::LargeBucket => (10, "a bucket of more than 4,096 keys"),
+            Error::StrayHash => (11, "a hash outside its bucket"),
+            Error::Table => (12, "table too short, or falling within the entries needed"),
+            Error::Lengths => (13, "seeds not B long, bitmap not ceil(m/64) long, or work under W"),
+            Error::NoSeed { .. } => (14, "bumping forbidden and the bucket taken gets 0"),
+            Error::HoleBuffer => (15, "hole list longer than its buffer"),
+            Error::BucketSize => {
+                (16, "bucket size not in 1 to min(2^log2_slice_len/8, 64), NaN included")
+            }
+            Error::Keys => (17, "k above 67,108,864"),
+            Error::TableLength => (21, "length 0 or above 131,072"),
+            Error::BadSeed => (28, "a seed of 2^sb or more, or a nonzero one for an empty bucket"),
+            Error::SlotTwice { .. } => (29, "a slot met twice"),
+            Error::Bitmap => (30, "bitmap differs"),
         }
     }
-
-    /// Document 01's words for the number.
-    pub fn words(&self) -> &'static str {
-        WORDS[self.number() as usize - 1]
-    }
 }
-
-/// The words of the numbers from 1 on.
-const WORDS: [&str; 17] = [
-    "sb outside 2..16",
-    "ll ≥ sb",
-    "log2_slice_len outside 3..16",
-    "ll > 6, or log2_slice_len·2^ll > 64",
-    "m outside 1..134,217,728",
-    "B even or above 67,108,865 (0 is even)",
-    "p > 4,096",
-    "a weight beyond ±2^32",
-    "begins not B+1 long, not starting at 0, falling, or not ending at the hash count; or more than 67,108,864 hashes",
-    "a bucket of more than 4,096 keys",
-    "a hash outside its bucket",
-    "table too short, or falling within the entries needed",
-    "seeds not B long, bitmap not ceil(m/64) long, or work under W",
-    "bumping forbidden and the bucket taken gets 0",
-    "hole list longer than its buffer",
-    "bucket size not in 1 to min(2^log2_slice_len/8, 64), NaN included",
-    "k above 67,108,864",
-];
 
 impl fmt::Display for Error {
     fn fmt(&self, f: &mut fmt::Formatter<'_>) -> fmt::Result {
         write!(f, "refused {}: {}", self.number(), self.words())?;
         match self {
-            Error::NoSeed { bucket } => write!(f, " (bucket {bucket})"),
+            Error::NoSeed { bucket } | Error::SlotTwice { bucket } => {
+                write!(f, " (bucket {bucket})")
+            }
             _ => Ok(()),
         }
     }

@@ -1,6 +1,7 @@
 //! The library's calls over memory that the caller lends, so that it can be used again.
 //!
-//! A call that is refused has written nothing, but for 14, which leaves seeds, bitmap and work zero.
+//! A call that is refused has written nothing, but for 14, which leaves seeds, bitmap and work zero,
+//! and 28 to 30, which leave the scratch of [`check`] zero.
 //!
 //! ```
 //! use phastr::{Groups, Settings, lent};
@@ -8,7 +9,7 @@
 //! let settings = Settings { slots: 7, log2_slice_len: 3, log2_layouts: 0, seed_bits: 4, buckets: 3 };
 //! let groups = Groups::new(3, vec![1 << 62, (1 << 62) + 3, 1 << 63])?;
 //! let sizes = lent::sizes(&settings, groups.largest())?;
-//! let table = phastr::log_table(sizes.table);
+//! let table = phastr::log_table(sizes.table)?;
 //! let (mut seeds, mut bitmap, mut work) = (vec![0; 3], vec![0; sizes.bitmap], vec![0; sizes.work]);
 //!
 //! let input = lent::Input {
@@ -28,6 +29,11 @@
 //! assert_eq!(lent::holes(7, &bitmap, &mut holes)?, 4);
 //! assert_eq!(holes[..4], [0, 3, 5, 6]);
 //! assert_eq!(lent::lookup(&settings, &seeds, 1 << 63)?, Some(2));
+//!
+//! let (hashes, begins) = (groups.hashes(), groups.begins());
+//! let level = lent::Finished { settings, hashes, begins, seeds: &seeds, bitmap: &bitmap };
+//! let mut scratch = vec![0; sizes.bitmap];
+//! assert_eq!(lent::check(&level, &mut scratch), Ok(()));
 //! # Ok::<(), phastr::Error>(())
 //! ```
 
@@ -62,6 +68,21 @@ pub struct Output<'a> {
     /// Room to work in, at least as many words as [`sizes`] says. That many are zero afterwards,
     /// and those beyond are kept.
     pub work: &'a mut [u64],
+}
+
+/// A finished level, and the keys that it was made from: what a check reads.
+#[derive(Clone, Copy, Debug)]
+pub struct Finished<'a> {
+    /// The level's settings.
+    pub settings: Settings,
+    /// The hashes, bucket after bucket.
+    pub hashes: &'a [u64],
+    /// Where each bucket begins among the hashes, and at last how many there are: B + 1 numbers.
+    pub begins: &'a [u32],
+    /// One seed to a bucket.
+    pub seeds: &'a [u16],
+    /// Slot i is bit i mod 64 of word i / 64.
+    pub bitmap: &'a [u64],
 }
 
 /// What a sweep wants lent.
@@ -126,6 +147,21 @@ pub fn lookup_all(
     answer(raw::positions(settings, seeds, hashes, slots), ())
 }
 
+/// Checks a finished level, whoever made it. It is accepted exactly when every seed is below 2^sb,
+/// every empty bucket has seed 0, no two keys with a nonzero seed share a slot, and the bitmap marks
+/// just their slots. That its seeds are the cheapest is not asked.
+///
+/// Refused: 1 to 7, 9 to 11 and 13; then 28, 29 with the lowest bucket at which a slot is met twice,
+/// and 30. The scratch is as long as the bitmap. What it holds before does not matter, and unless one
+/// of 1 to 13 refuses it is zero afterwards.
+pub fn check(level: &Finished, scratch: &mut [u64]) -> Result<(), Error> {
+    let mut bucket = 0;
+    match raw::check(level, scratch, &mut bucket) {
+        0 => Ok(()),
+        number => Err(Error::of(number, bucket)),
+    }
+}
+
 /// How many buckets so many keys get at an expected bucket size. Refused: 3, 16 and 17.
 ///
 /// ```
@@ -135,4 +171,18 @@ pub fn bucket_count(log2_slice_len: u32, keys: u64, size: f64) -> Result<u64, Er
     let mut count = 0;
     let number = raw::bucket_count(log2_slice_len, keys, size, &mut count);
     answer(number, count)
+}
+
+/// Fills a table of logarithms, of the length lent: entry d is 2^24·log2 d, rounded to nearest, and
+/// entry 0 is 0. Refused: 21 where it has no entries or more than
+/// [`LOG_ENTRIES`](crate::LOG_ENTRIES).
+///
+/// ```
+/// let mut table = [7; 9];
+/// phastr::lent::log_table(&mut table)?;
+/// assert_eq!([table[0], table[1], table[4], table[8]], [0, 0, 2 << 24, 3 << 24]);
+/// # Ok::<(), phastr::Error>(())
+/// ```
+pub fn log_table(table: &mut [u32]) -> Result<(), Error> {
+    answer(raw::log_table(table), ())
 }

@@ -1,6 +1,6 @@
 //! A level that owns its memory.
 
-use crate::lent::{self, Input, Output};
+use crate::lent::{self, Finished, Input, Output};
 use crate::table::HOUSE_ENTRIES;
 use crate::{BUMPED, Counts, Error, Groups, Settings, house_table, log_table};
 
@@ -38,7 +38,7 @@ impl Level {
         let table = if sizes.table <= HOUSE_ENTRIES {
             house_table().to_vec()
         } else {
-            log_table(sizes.table)
+            log_table(sizes.table)?
         };
         let mut seeds = vec![0; settings.buckets as usize];
         let mut bitmap = vec![0; sizes.bitmap];
@@ -48,6 +48,37 @@ impl Level {
         let output = Output { seeds: &mut seeds, bitmap: &mut bitmap, work: &mut work };
         let counts = lent::sweep(&input, output)?;
         Ok(Level { settings, seeds, bitmap, counts })
+    }
+
+    /// Takes over a level that another has made, PHastR's own Rust for one, once it is found sound
+    /// ([`check_level`]). Refused: as that.
+    ///
+    /// ```
+    /// use phastr::{Error, Groups, Level, Settings};
+    ///
+    /// let settings = Settings { slots: 7, log2_slice_len: 3, log2_layouts: 0, seed_bits: 4, buckets: 3 };
+    /// let groups = Groups::new(3, vec![1 << 62, (1 << 62) + 3, 1 << 63])?;
+    /// let level = Level::from_parts(settings, &groups, vec![3, 4, 0], vec![0b10110])?;
+    /// assert_eq!((level.lookup(1 << 63), level.counts().placed), (Some(2), 3));
+    ///
+    /// let spoilt = Level::from_parts(settings, &groups, vec![3, 4, 0], vec![0b10111]);
+    /// assert_eq!(spoilt, Err(Error::Bitmap));
+    /// # Ok::<(), Error>(())
+    /// ```
+    pub fn from_parts(
+        settings: Settings,
+        groups: &Groups,
+        seeds: Vec<u16>,
+        bitmap: Vec<u64>,
+    ) -> Result<Level, Error> {
+        check_level(settings, groups, &seeds, &bitmap)?;
+        let counts = counts(groups, &seeds);
+        Ok(Level { settings, seeds, bitmap, counts })
+    }
+
+    /// Checks the level against the keys it should be made from. Refused: as [`check_level`].
+    pub fn check(&self, groups: &Groups) -> Result<(), Error> {
+        check_level(self.settings, groups, &self.seeds, &self.bitmap)
     }
 
     /// The slot of a hash, or none where its bucket was bumped. A hash that was no key gets some
@@ -109,6 +140,39 @@ impl Level {
     pub fn into_parts(self) -> (Vec<u16>, Vec<u64>) {
         (self.seeds, self.bitmap)
     }
+}
+
+/// Checks a finished level, whoever made it, against the keys it was made from. Accepted and refused:
+/// as [`lent::check`].
+///
+/// ```
+/// use phastr::{Error, Groups, Settings, check_level};
+///
+/// // Two keys in one bucket: seed 1 puts both on slot 1.
+/// let settings = Settings { slots: 7, log2_slice_len: 3, log2_layouts: 0, seed_bits: 4, buckets: 1 };
+/// let groups = Groups::new(1, vec![0, 4])?;
+/// let refused = check_level(settings, &groups, &[1], &[0b10]).unwrap_err();
+/// assert_eq!(refused, Error::SlotTwice { bucket: 0 });
+/// assert_eq!(refused.to_string(), "refused 29: a slot met twice (bucket 0)");
+/// # Ok::<(), Error>(())
+/// ```
+pub fn check_level(
+    settings: Settings,
+    groups: &Groups,
+    seeds: &[u16],
+    bitmap: &[u64],
+) -> Result<(), Error> {
+    let (hashes, begins) = (groups.hashes(), groups.begins());
+    let mut scratch = vec![0; bitmap.len()];
+    lent::check(&Finished { settings, hashes, begins, seeds, bitmap }, &mut scratch)
+}
+
+/// The counts of a level that has been checked.
+fn counts(groups: &Groups, seeds: &[u16]) -> Counts {
+    let sizes = groups.begins().windows(2).map(|w| u64::from(w[1] - w[0]));
+    let placed = sizes.zip(seeds).filter(|&(_, &seed)| seed != 0).map(|(size, _)| size).sum();
+    let zero = seeds.iter().filter(|&&seed| seed == 0).count() as u64;
+    Counts { placed, bumped: groups.hashes().len() as u64 - placed, zero }
 }
 
 /// The slots that no key took, ascending ([`Level::holes`]).

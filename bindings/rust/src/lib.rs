@@ -25,7 +25,8 @@
 //!
 //! [`Builder`] and [`Level`] own their memory. [`lent`] has the same calls over memory of the
 //! caller, for those who sweep often. Whatever is handed to a call, it comes back: with an answer,
-//! or with an [`Error`] that has the number and words of document 01, the project's scope.
+//! or with an [`Error`] that has the number and words of documents 01 and 02, the project's
+//! scope and the requests that came after it.
 
 #![deny(missing_docs, unsafe_op_in_unsafe_fn)]
 
@@ -41,9 +42,9 @@ mod table;
 pub use builder::Builder;
 pub use error::Error;
 pub use groups::Groups;
-pub use level::{Holes, Level};
+pub use level::{Holes, Level, check_level};
 pub use settings::{Settings, default_weights};
-pub use table::{HOUSE_ENTRIES, house_table, log_table};
+pub use table::{HOUSE_ENTRIES, LOG_ENTRIES, house_table, log_table};
 
 /// What a slot is where a key's bucket was bumped, in the calls that fill a slice of slots.
 pub const BUMPED: u64 = u64::MAX;

@@ -8,7 +8,7 @@
 //! writing is lent twice.
 
 use crate::Settings;
-use crate::lent::{Input, Output};
+use crate::lent::{Finished, Input, Output};
 use crate::table::HOUSE_ENTRIES;
 
 // Lengths are passed as size_t, which stands for Rattle's 64-bit usize.
@@ -75,6 +75,25 @@ unsafe extern "C" {
         slots_len: usize,
     ) -> u64;
 
+    fn phastr_check_level(
+        m: u64,
+        log2_slice_len: u64,
+        ll: u64,
+        sb: u64,
+        buckets: u64,
+        hashes: *const u64,
+        hashes_len: usize,
+        begins: *const u32,
+        begins_len: usize,
+        seeds: *const u16,
+        seeds_len: usize,
+        bitmap: *const u64,
+        bitmap_len: usize,
+        scratch: *mut u64,
+        scratch_len: usize,
+        bucket: &mut u64,
+    ) -> u64;
+
     fn phastr_bucket_count(log2_slice_len: u64, keys: u64, size: f64, count: &mut u64) -> u64;
 
     fn phastr_sizes(
@@ -88,6 +107,8 @@ unsafe extern "C" {
     ) -> u64;
 
     fn phastr_house_table(table: &mut [u32; HOUSE_ENTRIES]);
+
+    fn phastr_log_table(table: *mut u32, table_len: usize) -> u64;
 }
 
 /// m, log2_slice_len, ll, sb and B, as every call takes them.
@@ -169,6 +190,32 @@ pub(crate) fn positions(s: &Settings, seeds: &[u16], hashes: &[u64], slots: &mut
     }
 }
 
+/// Answers the number; bucket is written at 29.
+pub(crate) fn check(level: &Finished, scratch: &mut [u64], bucket: &mut u64) -> u64 {
+    let [m, log2_slice_len, ll, sb, buckets] = numbers(&level.settings);
+    // SAFETY: each pointer and length is that of one slice; scratch is borrowed for writing.
+    unsafe {
+        phastr_check_level(
+            m,
+            log2_slice_len,
+            ll,
+            sb,
+            buckets,
+            level.hashes.as_ptr(),
+            level.hashes.len(),
+            level.begins.as_ptr(),
+            level.begins.len(),
+            level.seeds.as_ptr(),
+            level.seeds.len(),
+            level.bitmap.as_ptr(),
+            level.bitmap.len(),
+            scratch.as_mut_ptr(),
+            scratch.len(),
+            bucket,
+        )
+    }
+}
+
 /// Answers the number; count is written at 0.
 pub(crate) fn bucket_count(log2_slice_len: u32, keys: u64, size: f64, count: &mut u64) -> u64 {
     // SAFETY: numbers, and a reference for writing.
@@ -186,6 +233,12 @@ pub(crate) fn sizes(s: &Settings, largest: u64, sizes: &mut [u64; 3]) -> u64 {
 pub(crate) fn house_table(table: &mut [u32; HOUSE_ENTRIES]) {
     // SAFETY: a reference for writing, to as many entries as the library writes.
     unsafe { phastr_house_table(table) }
+}
+
+/// Answers the number; the table is written at 0.
+pub(crate) fn log_table(table: &mut [u32]) -> u64 {
+    // SAFETY: the pointer and length are those of one slice, borrowed for writing.
+    unsafe { phastr_log_table(table.as_mut_ptr(), table.len()) }
 }
 
 #[cfg(test)]

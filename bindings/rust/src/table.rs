@@ -1,9 +1,12 @@
 //! Logarithm tables to lend to a sweep.
 
-use crate::raw;
+use crate::{Error, lent, raw};
 
 /// The entries of the house table.
 pub const HOUSE_ENTRIES: usize = 2048;
+
+/// The entries of the longest table that is made.
+pub const LOG_ENTRIES: usize = 131_072;
 
 /// The house table: entry d is 2^24·log2 d, rounded to nearest, and entry 0 is 0.
 ///
@@ -17,18 +20,19 @@ pub fn house_table() -> Box<[u32; HOUSE_ENTRIES]> {
     table
 }
 
-/// A table of so many entries, for settings that want more than the house table has (slices of
-/// 2,048 slots do). It goes on where the house table ends, by the rule of PHastR's own table.
+/// A table of 1 to [`LOG_ENTRIES`] entries by the same rule, in whole numbers, for settings that want
+/// more than the house table has (slices of 2,048 slots do). Refused: 21.
 ///
 /// ```
-/// let table = phastr::log_table(4097);
+/// let table = phastr::log_table(4097)?;
 /// assert_eq!(table[..2048], phastr::house_table()[..]);
 /// assert_eq!(table[4096], 12 << 24);
+/// assert_eq!(phastr::log_table(131_073), Err(phastr::Error::TableLength));
+/// # Ok::<(), phastr::Error>(())
 /// ```
-pub fn log_table(entries: usize) -> Vec<u32> {
-    let rule = |d: usize| ((d as f64).log2() * f64::from(1 << 24)).round() as u32;
-    let house = house_table();
-    let mut table = house[..entries.min(HOUSE_ENTRIES)].to_vec();
-    table.extend((HOUSE_ENTRIES..entries).map(rule));
-    table
+pub fn log_table(entries: usize) -> Result<Vec<u32>, Error> {
+    // No memory for a table that is refused: any length beyond the limit stands for all of them.
+    let mut table = vec![0; entries.min(LOG_ENTRIES + 1)];
+    lent::log_table(&mut table)?;
+    Ok(table)
 }

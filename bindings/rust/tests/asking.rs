@@ -4,7 +4,7 @@ mod common;
 
 use common::Random;
 use phastr::lent;
-use phastr::{BUMPED, Builder, Error, Groups, Level, Settings, default_weights, log_table};
+use phastr::{BUMPED, Builder, Error, Groups, Level, Settings, default_weights};
 
 /// Settings that pass, of three buckets.
 const SOUND: Settings =
@@ -184,6 +184,23 @@ fn levels() {
     }
 }
 
+/// Slices of 2,048 to 65,536 slots, which want a longer table than the house table. No table is given.
+#[test]
+fn long_slices() {
+    for log2_slice_len in 11..=16 {
+        let length = 1 << log2_slice_len;
+        // As many slots as a slice has, a few around that, and twice as many.
+        for count in [length - 1, length, length + 1, 2 * length + 7] {
+            let keys = hashes(count);
+            let long = Builder::new().log2_slice_len(log2_slice_len);
+            let level = long.sweep(keys.clone()).unwrap();
+            let sizes = lent::sizes(&level.settings(), 1).unwrap();
+            assert_eq!(sizes.table > phastr::HOUSE_ENTRIES, count >= 2 * 1024, "{count}");
+            hold_together(&level, &keys);
+        }
+    }
+}
+
 #[test]
 fn builders_refuse() {
     let keys = || hashes(100);
@@ -221,15 +238,9 @@ fn levels_of_parts_are_checked() {
 }
 
 #[test]
-fn phastrs_weights_and_table() {
+fn phastrs_weights() {
     assert_eq!(default_weights(8)[..2], [-52000, 53315]);
     assert_eq!(default_weights(9)[..2], [46000, 55041]);
-    let table = log_table(65_537);
-    assert_eq!([table[2049], table[3000], table[65_535]], [184_561_192, 193_789_374, 268_435_087]);
-    assert_eq!(table[65_536], 16 << 24);
-    assert!(table.windows(2).skip(1).all(|w| w[0] < w[1]));
-    assert_eq!(log_table(5), table[..5]);
-    assert_eq!(log_table(0), []);
 }
 
 #[test]
@@ -241,4 +252,5 @@ fn errors_say_number_and_words() {
     );
     assert_eq!(Error::SeedBits.to_string(), "refused 1: sb outside 2..16");
     assert_eq!(Error::Keys.words(), "k above 67,108,864");
+    assert_eq!(Error::TableLength.to_string(), "refused 21: length 0 or above 131,072");
 }

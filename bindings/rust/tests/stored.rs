@@ -1,7 +1,7 @@
-//! The Rust's stored answers (crates/replay/stdin), held to sweeps through this crate: a differential
-//! run that needs no Rust at hand. oracle/README.md has the file's form.
+//! The Rust's stored answers (crates/replay/stdin), held to sweeps through this crate, and its levels
+//! checked: a differential run that needs no Rust at hand. oracle/README.md has the file's form.
 
-use phastr::lent::{self, Input, Output};
+use phastr::lent::{self, Finished, Input, Output};
 use phastr::{Error, Settings};
 
 /// House numbers: groups of seven bits, low group first, top bit set while more follow.
@@ -75,6 +75,11 @@ fn hold(numbers: &mut Numbers, table: &[u32]) {
     let mut holes = vec![0; (slots - counts.placed) as usize];
     assert_eq!(lent::holes(slots, &bitmap, &mut holes), Ok(holes.len()));
     assert_eq!(holes, numbers.rising());
+    let level =
+        Finished { settings, hashes: &hashes, begins: &begins, seeds: &seeds, bitmap: &bitmap };
+    let mut scratch = vec![7; sizes.bitmap];
+    assert_eq!(lent::check(&level, &mut scratch), Ok(()));
+    assert!(scratch.iter().all(|&word| word == 0));
 }
 
 #[test]

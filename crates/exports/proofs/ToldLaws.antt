@@ -1,6 +1,6 @@
 -- The number told is that of the first line that applies, and for a sweep that passed them all 14 or 0. So 0 tells that the call is done, and nothing else
--- does. Each holds by the cases of the number. Assumes nothing.
-use mathlib.Core.Path.{_≡_, refl}
+-- does. Each holds by the cases of the number. And a level that a sweep tells 0 of is one that the check tells 0 of. Assumes nothing.
+use mathlib.Core.Path.{_≡_, refl, ap}
 use mathlib.Core.Bool.{Bool}
 use mathlib.Core.List.{List}
 use mathlib.Core.Option.{Option, none, some}
@@ -12,8 +12,11 @@ use Rattle.rules.specs.declared.Settings.{Settings}
 use Rattle.rules.specs.declared.Counts.{Counts}
 use Rattle.rules.specs.Order.{Input, Tie}
 use Rattle.rules.specs.Sweep.{finalSeeds}
-use Rattle.rules.specs.Numbers.{Lent, firstOf, lookupLines, holesLines, countLines}
-use Rattle.rules.specs.Answers.{Answer, unless, ranAnswer, countsOf, sweepTurns, stopsAt, sweepNumber, sweepAnswer, lookupAnswer, holesAnswer, countAnswer}
+use Rattle.words.specs.Map.{Words}
+use Rattle.rules.specs.Numbers.{Lent, firstOf, lookupLines, holesLines, countLines, bitmapWords}
+use Rattle.rules.specs.Answers.{Answer, unless, ranAnswer, countsOf, sweepTurns, stopsAt, sweepNumber, sweepAnswer, sweepSeeds, sweepBitmap, lookupAnswer, holesAnswer, countAnswer}
+use Rattle.level_check.specs.Check.{levelOf, checkAnswer}
+use Rattle.level_check.proofs.Finished.{accepts-sweep}
 use Rattle.exports.specs.Told.{numberTold}
 
 told-unless : (n : ℕ) (values : List ℕ) → numberTold (unless n (Answer values)) ≡ n
@@ -43,3 +46,12 @@ pub sweep-told : (tie : Tie) (bump : Bool) (i : Input) (lent : Lent)
     → numberTold (sweepAnswer tie bump i lent) ≡ 0 → (sweepNumber i lent ≡ 0) × (stopsAt tie bump i ≡ none)
 unfolding sweepAnswer
 sweep-told tie bump i lent e = told-ran (sweepNumber i lent) (stopsAt tie bump i) (countsOf i (finalSeeds i (sweepTurns tie i))) e
+
+-- what phastr_sweep has finished, phastr_check_level accepts
+pub swept-checked : (tie : Tie) (bump : Bool) (i : Input) (lent : Lent) → Words (i .hashes) → numberTold (sweepAnswer tie bump i lent) ≡ 0
+    → (seeds bitmap scratch : List ℕ) → length scratch ≡ bitmapWords (i .settings .m)
+    → numberTold (checkAnswer (levelOf (i .settings) (i .hashes) (i .begins)) (sweepSeeds tie bump i lent seeds) (sweepBitmap tie bump i lent bitmap) scratch) ≡ 0
+unfolding numberTold
+swept-checked tie bump i lent w e seeds bitmap scratch h =
+    let r = sweep-told tie bump i lent e in
+    ap numberTold (accepts-sweep tie bump i lent (r .0) (r .1) w seeds bitmap scratch h)

@@ -1,7 +1,9 @@
-// What a caller has to lend, and the house table.
+// What a caller has to lend, and tables of logarithms.
 ghost use mathlib.Core.Path.{_≡_};
+ghost use lib.ListN.{length};
 ghost use Rattle.rules.specs.Answers.{countAnswer};
 ghost use Rattle.log_table.specs.House.{houseTable, House};
+ghost use Rattle.log_table.specs.Logs.{logAnswer, logsOut};
 ghost use Rattle.exports.specs.Level.{settingsOf};
 ghost use Rattle.exports.specs.Told.{numberTold, valueTold};
 ghost use Rattle.exports.specs.Sizes.{sizesNumber, sizesAfter};
@@ -10,6 +12,8 @@ use geometry::settings::number_to_7;
 use geometry::shape::geometry_of;
 use geometry::shape::work_words;
 use log_table::house;
+use log_table::making::make_logs;
+use rules::Checked;
 use rules::Counted;
 use rules::Settings;
 
@@ -74,4 +78,16 @@ pub extern "C" fn phastr_house_table(table: &mut [u32; 2048])
     ensures { λ _. ⌜ (now (table .exit) ≡ houseTable) × House (now (table .exit)) ⌝ }
 {
     *table = house();
+}
+
+// Fills a table of logarithms, of the length lent. 21 where that is 0 or above 131,072.
+#[no_mangle]
+pub extern "C" fn phastr_log_table(table: &mut [u32]) -> u64
+    ensures answer { λ r. ⌜ r ≡ numberTold (logAnswer (length (now (table .entry)))) ⌝ }
+    ensures buffer { λ _. ⌜ now (table .exit) ≡ logsOut (now (table .entry)) ⌝ }
+{
+    match make_logs(table) {
+        Checked::Fine => 0,
+        Checked::Refused(number) => number,
+    }
 }

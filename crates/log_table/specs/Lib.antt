@@ -1,4 +1,2 @@
 pub mod House
-pub mod HouseLaws
-mod Walks
-mod Squares
+pub mod Logs

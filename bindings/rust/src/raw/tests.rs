@@ -28,6 +28,23 @@ fn a_sweep_tells_counts_or_a_bucket() {
     assert_eq!(swept(Settings { slots: 0, ..SOUND }, true, &[0]), (5, [KEPT; 3], KEPT));
 }
 
+/// Checks one bucket's keys under a seed and a bitmap; answers the number and the bucket.
+fn checked(settings: Settings, hashes: &[u64], seed: u16, marked: u64) -> (u64, u64) {
+    let (begins, seeds, bitmap) = ([0, hashes.len() as u32], [seed], [marked]);
+    let level = Finished { settings, hashes, begins: &begins, seeds: &seeds, bitmap: &bitmap };
+    let mut bucket = KEPT;
+    (check(&level, &mut [1], &mut bucket), bucket)
+}
+
+#[test]
+fn a_check_tells_the_bucket_of_29() {
+    assert_eq!(checked(SOUND, &[0], 4, 1), (0, KEPT));
+    assert_eq!(checked(SOUND, &[0, 0], 4, 1), (29, 0));
+    assert_eq!(checked(SOUND, &[0], 16, 1), (28, KEPT));
+    assert_eq!(checked(SOUND, &[0], 4, 2), (30, KEPT));
+    assert_eq!(checked(Settings { slots: 0, ..SOUND }, &[0], 4, 1), (5, KEPT));
+}
+
 #[test]
 fn refused_calls_keep_their_places() {
     let wrong = Settings { seed_bits: 1, ..SOUND };

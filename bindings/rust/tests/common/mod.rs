@@ -39,7 +39,7 @@ pub fn case(settings: Settings, buckets: &[&[u64]]) -> Case {
     for bucket in buckets {
         begins.push(begins[begins.len() - 1] + bucket.len() as u32);
     }
-    let table = log_table(4300);
+    let table = log_table(4300).unwrap();
     let case = Case {
         settings,
         weights: [0; 7],

@@ -1,15 +1,19 @@
 -- `close 25 d d 0 t` tests that t is `Nearest` to 2 ^ 24 · log2 d, by short numbers: d is squared 25 times in an interval, whose bounds keep at
 -- least 64 bits, rounded down and up. The power lies in the interval, so what holds of both bounds holds of it. Assumes nothing.
 use mathlib.Core.Path.{_≡_, refl, sym, ap, _∙_, subst, subst₂}
-use mathlib.Core.Bool.{Bool, false, _&&_}
+use mathlib.Core.Bool.{Bool, false, cond, _&&_}
 use Prim.Native.Nat.{ℕ, zero, suc, _+_, _-_, _*_, _/_, _^_, _≤_, _<_}
 use native.Mathlib.Nat.{mul-le-mul, mul-le-mul-left, mul-lt-mul-of-pos-right, div-mul-le-self, mul-one, pow-suc}
 use native.Mathlib.Omega.{arith}
 use lib.Dec.{T, leb, ltb, leb→le, ltb→lt}
 use lib.Pow.{pow-pos, pow-add}
 use Rattle.integers.specs.Division.{ceil-bounds, pow-split}
-use Rattle.log_table.specs.House.{Nearest, spare}
-use Rattle.log_table.specs.Walks.{both-left, both-right}
+use Rattle.log_table.specs.House.{Nearest}
+use Rattle.log_table.proofs.Walks.{both-left, both-right}
+
+-- how many of the bits of a square are dropped: a mantissa of 65 to 128 bits stays one, a shorter one is kept whole
+unfoldable pub spare : ℕ → ℕ
+spare l = cond (ltb l (2 ^ 64)) 0 (cond (ltb l (2 ^ 96)) 64 128)
 
 -- t is half the length of every number from l · 2 ^ e to h · 2 ^ e
 unfoldable pub decided : ℕ → ℕ → ℕ → ℕ → Bool

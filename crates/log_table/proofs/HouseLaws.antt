@@ -12,9 +12,10 @@ use lib.ListN.{length, getD, drop, length-drop}
 use lib.Seq.{getD-drop, ext-getD}
 use lib.Pow.{pow-mono}
 use Rattle.integers.specs.Power.{leastFrom, logUp}
-use Rattle.log_table.specs.House.{Nearest, House, spare, halfLength, entriesFrom, houseTable}
-use Rattle.log_table.specs.Walks.{both-left, both-right, each, pairs, evens, each-at, pairs-at, evens-at, evens-length}
-use Rattle.log_table.specs.Squares.{close, decided, close-near}
+use Rattle.log_table.specs.House.{Nearest, House, houseTable}
+use Rattle.log_table.proofs.Walks.{both-left, both-right, each, pairs, evens, each-at, pairs-at, evens-at, evens-length}
+use Rattle.log_table.proofs.Squares.{spare, close, decided, close-near}
+use Rattle.log_table.specs.Logs.{digit, raised, squares, bits, logEntry, logsFrom, logTable}
 
 -- the test of entry d: its value; x and y are the entries d and d + 1, and x and z the entries d and 2 d
 unfoldable near : ℕ → ℕ → Bool
@@ -94,7 +95,7 @@ module _ (xs : List ℕ) (p : Passed xs) where
 
 -- the one test
 passes : T (holds houseTable)
-unfolding holds near rise twice close decided each pairs evens houseTable entriesFrom halfLength spare logUp leastFrom
+unfolding holds near rise twice close decided each pairs evens spare houseTable logTable logsFrom logEntry bits squares raised digit logUp leastFrom
 passes = tt
 
 pub house-table : House houseTable
