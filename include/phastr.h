@@ -19,7 +19,8 @@
  *
  * Answers. Every call but phastr_house_table answers 0 or one of the numbers below, the first that
  * applies in the order in which the call names them. It writes only what its comment names, and
- * only where it answers 0; phastr_sweep also writes at 14, phastr_check_level at 28 to 30.
+ * only where it answers 0; phastr_sweep also writes at 14, phastr_check_level at 28 to 30, and the calls
+ * on level files leave what they write zero where they answer another number.
  *
  * What a caller owes. Whatever the numbers and the contents of slices are, a call comes back and
  * keeps to what it was lent. The pointers themselves cannot be checked, so the caller sees to it
@@ -67,6 +68,12 @@ enum phastr_number {
     PHASTR_KEYS = 17,              /* k above 67,108,864 */
     PHASTR_CHUNKS = 20,            /* chunk count 0 */
     PHASTR_TABLE_LENGTH = 21,      /* length 0 or above 131,072 */
+    PHASTR_FILE_SHORT = 22,        /* file ends or a number exceeds 64 bits or ten groups */
+    PHASTR_FILE_VERSION = 23,      /* version not 1 */
+    PHASTR_FILE_VALUE = 24,        /* a seed of 2^sb or more, a hole count above m, or a hole not rising
+                                      or not below m */
+    PHASTR_FILE_LEFT_OVER = 25,    /* bytes left over after the last hole */
+    PHASTR_FILE_ROOM = 26,         /* a lent output too small */
     PHASTR_BAD_SEED = 28,          /* a seed of 2^sb or more, or a nonzero one for an empty bucket */
     PHASTR_SLOT_TWICE = 29,        /* a slot met twice */
     PHASTR_BITMAP = 30             /* bitmap differs */
@@ -175,6 +182,33 @@ uint64_t phastr_positions(uint64_t m, uint64_t log2_slice_len, uint64_t ll, uint
                           uint64_t buckets, const uint16_t *seeds, size_t seeds_len,
                           const uint64_t *hashes, size_t hashes_len,
                           uint64_t *slots, size_t slots_len);
+
+/*
+ * Writes a finished level, without its hashes, as a level file (docs/LEVEL-FILE.md): its settings,
+ * its seeds and the holes that phastr_holes lists.
+ *
+ * Answers 0, 1 to 7, 13 where there is not one seed to a bucket, 24 or 26.
+ * At 0, the file stands at the front of out, out beyond it is kept, and *written is its length: at
+ * most 16 bytes, 3 for each seed and 4 for each hole. At any other number all of out and *written
+ * are 0.
+ */
+uint64_t phastr_level_write(uint64_t m, uint64_t log2_slice_len, uint64_t ll, uint64_t sb,
+                            uint64_t buckets, const uint16_t *seeds, size_t seeds_len,
+                            const uint32_t *holes, size_t holes_len,
+                            uint8_t *out, size_t out_len, uint64_t *written);
+
+/*
+ * Reads a level file. Each number is looked at as it is read.
+ *
+ * Answers 0 or, of the first number that is wrong: 22, 23; 1 to 7 and then 26 once B is read; 24 or
+ * 26; and 25 where all is well but bytes are left over.
+ * At 0, level has m, log2_slice_len, ll, sb, B and the number of holes; seeds has B seeds and holes
+ * the holes, ascending, at their front, and what lies beyond is kept. At any other number all of
+ * seeds, holes and level are 0.
+ * As many seeds and as many holes as the file has bytes are room enough for any whole file.
+ */
+uint64_t phastr_level_read(const uint8_t *bytes, size_t bytes_len, uint16_t *seeds, size_t seeds_len,
+                           uint32_t *holes, size_t holes_len, uint64_t level[6]);
 
 /*
  * Checks a finished level, whoever made it, against the grouped hashes it was made from. It accepts

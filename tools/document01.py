@@ -254,3 +254,95 @@ def listing(data):
     lines += [("bucket", b, len(keys), seeds[b]) for b, keys in enumerate(groups)]
     lines += [("hole", i) for i in holes]
     return "".join(" ".join(map(str, line)) + "\n" for line in lines)
+
+
+# document 02, 5/14: level files
+class Refused(Exception):
+    """A file or a level that one of the numbers refuses."""
+
+    def __init__(self, number):
+        self.number = number
+
+
+def house(n, groups=1):
+    """A number in house form, in at least so many groups."""
+    out = []
+    while n or len(out) < groups:
+        out.append(n % 128 + 128)
+        n //= 128
+    return bytes(out[:-1] + [out[-1] - 128])
+
+
+def file_numbers(s, seeds, holes):
+    """The numbers of a level, in the order of its file."""
+    return [1, *s, *seeds, len(holes), *(hole - before for before, hole in zip([0, *holes], holes))]
+
+
+def level_file(s, seeds, holes):
+    return b"".join(map(house, file_numbers(s, seeds, holes)))
+
+
+def written(s, seeds, holes, room):
+    """The file of a level, for which there are so many bytes."""
+    number = number_to_7(s)
+    if number:
+        raise Refused(number)
+    if len(seeds) != s.buckets:
+        raise Refused(13)
+    if any(seed >= 2**s.sb for seed in seeds) or list(holes) != sorted(set(holes)) or any(hole >= s.m for hole in holes):
+        raise Refused(24)
+    data = level_file(s, seeds, holes)
+    if len(data) > room:
+        raise Refused(26)
+    return data
+
+
+class FileReader:
+    """The numbers of a file, one at a time."""
+
+    def __init__(self, data):
+        self.data, self.at = data, 0
+
+    def next(self):
+        value = groups = 0
+        while True:
+            if self.at == len(self.data) or groups == 10:
+                raise Refused(22)
+            byte = self.data[self.at]
+            value += byte % 128 << 7 * groups
+            self.at, groups = self.at + 1, groups + 1
+            if value >= WORD:
+                raise Refused(22)
+            if byte < 128:
+                return value
+
+
+def read(data, seed_room, hole_room):
+    """The settings, seeds and holes of a file, for which so many may be lent."""
+    reader = FileReader(data)
+    if reader.next() != 1:
+        raise Refused(23)
+    s = Settings(*(reader.next() for _ in range(5)))
+    if number_to_7(s):
+        raise Refused(number_to_7(s))
+    if s.buckets > seed_room:
+        raise Refused(26)
+    seeds, holes = [], []
+    while len(seeds) < s.buckets:
+        seeds.append(reader.next())
+        if seeds[-1] >= 2**s.sb:
+            raise Refused(24)
+    count = reader.next()
+    if count > s.m:
+        raise Refused(24)
+    if count > hole_room:
+        raise Refused(26)
+    while len(holes) < count:
+        step = reader.next()
+        hole = holes[-1] + step if holes else step
+        if hole >= s.m or (holes and step == 0):
+            raise Refused(24)
+        holes.append(hole)
+    if reader.at < len(data):
+        raise Refused(25)
+    return s, seeds, holes

@@ -9,6 +9,7 @@
 #include <inttypes.h>
 #include <stdio.h>
 #include <stdlib.h>
+#include <string.h>
 
 #include "phastr.h"
 
@@ -187,6 +188,32 @@ static uint64_t look_up_all(const struct level *level) {
     return bumped;
 }
 
+/* Writes the level as a file, reads that back and compares. Answers the file's length. */
+static uint64_t hand_round(const struct level *level, const uint32_t *list, uint64_t count) {
+    const struct settings s = level->s;
+    size_t bytes = (size_t)(16 + 3 * s.buckets + 4 * count);
+    uint8_t *file = room(bytes, 1);
+    uint64_t written = 0, read[6] = {0}, number;
+    number = phastr_level_write(s.m, s.log2_slice_len, s.ll, s.sb, s.buckets, level->seeds,
+                                (size_t)s.buckets, list, (size_t)count, file, bytes, &written);
+    if (number != PHASTR_OK)
+        fail("file", number);
+    uint16_t *seeds = room(written, sizeof *seeds);
+    uint32_t *again = room(written, sizeof *again);
+    number = phastr_level_read(file, (size_t)written, seeds, (size_t)written, again, (size_t)written, read);
+    if (number != PHASTR_OK)
+        fail("reading the file", number);
+    if (read[0] != s.m || read[1] != s.log2_slice_len || read[2] != s.ll || read[3] != s.sb ||
+        read[4] != s.buckets || read[5] != count ||
+        memcmp(seeds, level->seeds, (size_t)s.buckets * sizeof *seeds) ||
+        memcmp(again, list, (size_t)count * sizeof *again))
+        fail("another level was read, hole count", read[5]);
+    free(again);
+    free(seeds);
+    free(file);
+    return written;
+}
+
 /* Checks a level against its keys. Answers the number; at 29, *bucket is the one that it names. */
 static uint64_t check(const struct level *level, uint64_t *bucket) {
     const struct settings s = level->s;
@@ -232,18 +259,20 @@ static void generated(uint64_t keys, uint64_t log2_slice_len, uint64_t chunks) {
         level.hashes[i] = spread(i + 1);
     group(&level);
     sweep(&level, weights, chunks);
-    free(holes(&level, &count));
+    uint32_t *list = holes(&level, &count);
+    uint64_t written = hand_round(&level, list, count);
+    free(list);
     uint64_t bumped = look_up_all(&level);
     if (bumped != level.counts[1] || level.counts[0] + bumped != keys || count != bumped)
         fail("counts", bumped);
     printf("%" PRIu64 " keys in %" PRIu64 " buckets, %" PRIu64 " chunks: %" PRIu64 " placed, %" PRIu64
-           " bumped, %" PRIu64 " buckets of seed 0, %" PRIu64 " holes\n",
-           keys, level.s.buckets, chunks, level.counts[0], bumped, level.counts[2], count);
+           " bumped, %" PRIu64 " buckets of seed 0, %" PRIu64 " holes; a file of %" PRIu64 " bytes\n",
+           keys, level.s.buckets, chunks, level.counts[0], bumped, level.counts[2], count, written);
     check_spoilt(&level);
     let_go(&level);
 }
 
-/* Numbers and slices that are refused: nothing is written. */
+/* Numbers and slices that are refused: nothing is written, and of a level file zeros are left. */
 static void refused(void) {
     uint16_t seeds[2] = {1, 1};
     uint64_t slot = 77, number = phastr_lookup(7, 3, 0, 4, 3, seeds, 2, 0, &slot);
@@ -254,6 +283,13 @@ static void refused(void) {
     uint32_t entry = 77;
     number = phastr_log_table(&entry, 0);
     printf("refused %" PRIu64 ", entry kept at %" PRIu32 "\n", number, entry);
+    uint8_t file[] = {1, 7, 3, 0, 4, 3, 3, 16};
+    uint32_t hole = 77;
+    uint64_t read[6] = {77, 77, 77, 77, 77, 77};
+    uint16_t three[3] = {77, 77, 77};
+    number = phastr_level_read(file, sizeof file, three, 3, &hole, 1, read);
+    printf("refused %" PRIu64 ", a seed, a hole and m left at %" PRIu16 ", %" PRIu32 ", %" PRIu64 "\n", number,
+           three[0], hole, read[0]);
 }
 
 /* The house table is the front of a longer one. */

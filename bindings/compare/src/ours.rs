@@ -122,7 +122,11 @@ pub fn compare_owned(case: &Case, bucket_size: f64, wanted: &Wanted, tally: &mut
     tally.cases += 1;
     tally.keys += case.hashes.len() as u64;
     tally.same("settings", level.settings(), settings(case));
-    tally.all_same("counts", &counts_in(level.counts()), &wanted.counts);
+    tally.all_same(
+        "counts",
+        &counts_in(level.counts().expect("the level was swept")),
+        &wanted.counts,
+    );
     tally.all_same("seeds", level.seeds(), &wanted.seeds);
     tally.all_same("bitmap", level.bitmap(), &wanted.bitmap);
     tally.all_same("holes", &level.holes().collect::<Vec<u32>>(), &wanted.holes);

@@ -54,6 +54,17 @@ pub enum Error {
     Chunks,
     /// 21: a table to be filled has no entries, or more than 131,072.
     TableLength,
+    /// 22: a level file ends too early, or has a number of over 64 bits or ten groups.
+    FileShort,
+    /// 23: a level file's version is not 1.
+    FileVersion,
+    /// 24: a seed of a level file is too large, there are more holes than slots, or a hole does not
+    /// rise or is no slot.
+    FileValue,
+    /// 25: bytes are left over after a level file's last hole.
+    FileLeftOver,
+    /// 26: seeds, holes or bytes have no room for what a level file has.
+    FileRoom,
     /// 28: a seed has more than sb bits, or an empty bucket has one that is not 0.
     BadSeed,
     /// 29: two keys share a slot.
@@ -88,6 +99,11 @@ impl Error {
             17 => Error::Keys,
             20 => Error::Chunks,
             21 => Error::TableLength,
+            22 => Error::FileShort,
+            23 => Error::FileVersion,
+            24 => Error::FileValue,
+            25 => Error::FileLeftOver,
+            26 => Error::FileRoom,
             28 => Error::BadSeed,
             29 => Error::SlotTwice { bucket },
             30 => Error::Bitmap,
@@ -131,6 +147,14 @@ impl Error {
             Error::Keys => (17, "k above 67,108,864"),
             Error::Chunks => (20, "chunk count 0"),
             Error::TableLength => (21, "length 0 or above 131,072"),
+            Error::FileShort => (22, "file ends or a number exceeds 64 bits or ten groups"),
+            Error::FileVersion => (23, "version not 1"),
+            Error::FileValue => (
+                24,
+                "a seed of 2^sb or more, a hole count above m, or a hole not rising or not below m",
+            ),
+            Error::FileLeftOver => (25, "bytes left over after the last hole"),
+            Error::FileRoom => (26, "a lent output too small"),
             Error::BadSeed => (28, "a seed of 2^sb or more, or a nonzero one for an empty bucket"),
             Error::SlotTwice { .. } => (29, "a slot met twice"),
             Error::Bitmap => (30, "bitmap differs"),

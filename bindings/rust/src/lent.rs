@@ -186,3 +186,58 @@ pub fn bucket_count(log2_slice_len: u32, keys: u64, size: f64) -> Result<u64, Er
 pub fn log_table(table: &mut [u32]) -> Result<(), Error> {
     answer(raw::log_table(table), ())
 }
+
+/// How many bytes are room enough for a level file of so many seeds and holes, whatever they are.
+pub fn file_room(seeds: usize, holes: usize) -> usize {
+    16 + 3 * seeds + 4 * holes
+}
+
+/// Writes a level file (docs/LEVEL-FILE.md) to the front of `out` and answers its length. Refused: 1
+/// to 7, 13 where there is not one seed to a bucket, 24 and 26; all of `out` is then zero.
+///
+/// ```
+/// use phastr::{Settings, lent};
+///
+/// let settings = Settings { slots: 7, log2_slice_len: 3, log2_layouts: 0, seed_bits: 4, buckets: 3 };
+/// let mut out = [9; 20];
+/// let length = lent::write_file(&settings, &[3, 4, 0], &[0, 3, 5, 6], &mut out)?;
+/// assert_eq!(out[..length], [1, 7, 3, 0, 4, 3, 3, 4, 0, 4, 0, 3, 2, 1]);
+/// assert_eq!(out[length..], [9; 6]);
+///
+/// let (mut seeds, mut holes) = ([0; 3], [0; 4]);
+/// assert_eq!(lent::read_file(&out[..length], &mut seeds, &mut holes)?, (settings, 4));
+/// assert_eq!((seeds, holes), ([3, 4, 0], [0, 3, 5, 6]));
+/// # Ok::<(), phastr::Error>(())
+/// ```
+pub fn write_file(
+    settings: &Settings,
+    seeds: &[u16],
+    holes: &[u32],
+    out: &mut [u8],
+) -> Result<usize, Error> {
+    let mut written = 0;
+    let number = raw::level_write(settings, seeds, holes, out, &mut written);
+    answer(number, written as usize)
+}
+
+/// Reads a level file into the front of `seeds` and `holes` and answers its settings and how many
+/// holes there are. Refused: 22 to 26, and 1 to 7 once its settings are read; all of `seeds` and
+/// `holes` are then zero. As many of each as there are bytes are room enough for any whole file.
+pub fn read_file(
+    bytes: &[u8],
+    seeds: &mut [u16],
+    holes: &mut [u32],
+) -> Result<(Settings, usize), Error> {
+    let mut level = [0; 6];
+    let number = raw::level_read(bytes, seeds, holes, &mut level);
+    let [slots, log2_slice_len, log2_layouts, seed_bits, buckets, count] = level;
+    // Settings that pass 1 to 7 are small.
+    let settings = Settings {
+        slots,
+        log2_slice_len: log2_slice_len as u32,
+        log2_layouts: log2_layouts as u32,
+        seed_bits: seed_bits as u32,
+        buckets,
+    };
+    answer(number, (settings, count as usize))
+}

@@ -7,14 +7,23 @@ use crate::{BUMPED, Counts, Error, Groups, How, Settings, house_table, log_table
 /// The keys of the largest bucket that a sweep takes.
 const LARGEST_BUCKET: u64 = 4096;
 
-/// A swept level: a seed for each bucket, and which slots are taken.
-#[derive(Clone, Debug, PartialEq, Eq)]
+/// A finished level, swept or read from a level file: a seed for each bucket, and which slots are
+/// taken. Two are equal where these and the settings are.
+#[derive(Clone, Debug)]
 pub struct Level {
     settings: Settings,
     seeds: Vec<u16>,
     bitmap: Vec<u64>,
-    counts: Counts,
+    counts: Option<Counts>,
 }
+
+impl PartialEq for Level {
+    fn eq(&self, other: &Level) -> bool {
+        (self.settings, &self.seeds, &self.bitmap) == (other.settings, &other.seeds, &other.bitmap)
+    }
+}
+
+impl Eq for Level {}
 
 impl Level {
     /// Sweeps grouped hashes. Refused: 1 to 8, 20, 9 to 11, and 14 where bumping is forbidden.
@@ -47,7 +56,47 @@ impl Level {
         let input = Input { settings, weights, how, hashes, begins, table: &table };
         let output = Output { seeds: &mut seeds, bitmap: &mut bitmap, work: &mut work };
         let counts = lent::sweep(&input, output)?;
-        Ok(Level { settings, seeds, bitmap, counts })
+        Ok(Level { settings, seeds, bitmap, counts: Some(counts) })
+    }
+
+    /// Reads a level file (docs/LEVEL-FILE.md). Refused: 22 to 25, and 1 to 7 once its settings are
+    /// read. A file that announces more seeds or holes than it has bytes is told as 22.
+    ///
+    /// ```
+    /// use phastr::{Builder, Level};
+    ///
+    /// let hashes: Vec<u64> = (1..=1000u64).map(|i| i.wrapping_mul(0x9E37_79B9_7F4A_7C15)).collect();
+    /// let level = Builder::new().sweep(hashes.clone())?;
+    /// let read = Level::from_bytes(&level.to_bytes())?;
+    /// assert_eq!(read, level);
+    /// assert_eq!(read.lookup_all(&hashes), level.lookup_all(&hashes));
+    /// assert!(read.holes().eq(level.holes()));
+    /// # Ok::<(), phastr::Error>(())
+    /// ```
+    pub fn from_bytes(bytes: &[u8]) -> Result<Level, Error> {
+        // Each number has at least one byte, so there is room for all that a whole file has.
+        let (mut seeds, mut holes) = (vec![0; bytes.len()], vec![0; bytes.len()]);
+        let (settings, count) = match lent::read_file(bytes, &mut seeds, &mut holes) {
+            Err(Error::FileRoom) => return Err(Error::FileShort),
+            read => read?,
+        };
+        seeds.truncate(settings.buckets as usize);
+        seeds.shrink_to_fit();
+        let mut bitmap = full_bitmap(settings.slots);
+        for &hole in &holes[..count] {
+            bitmap[hole as usize / 64] ^= 1 << (hole % 64);
+        }
+        Ok(Level { settings, seeds, bitmap, counts: None })
+    }
+
+    /// The level as a file (docs/LEVEL-FILE.md), for [`Level::from_bytes`] here or elsewhere.
+    pub fn to_bytes(&self) -> Vec<u8> {
+        let holes: Vec<u32> = self.holes().collect();
+        let mut bytes = vec![0; lent::file_room(self.seeds.len(), holes.len())];
+        let length = lent::write_file(&self.settings, &self.seeds, &holes, &mut bytes)
+            .expect("a finished level is sound");
+        bytes.truncate(length);
+        bytes
     }
 
     /// Takes over a level that another has made, PHastR's own Rust for one, once it is found sound
@@ -59,7 +108,7 @@ impl Level {
     /// let settings = Settings { slots: 7, log2_slice_len: 3, log2_layouts: 0, seed_bits: 4, buckets: 3 };
     /// let groups = Groups::new(3, vec![1 << 62, (1 << 62) + 3, 1 << 63])?;
     /// let level = Level::from_parts(settings, &groups, vec![3, 4, 0], vec![0b10110])?;
-    /// assert_eq!((level.lookup(1 << 63), level.counts().placed), (Some(2), 3));
+    /// assert_eq!((level.lookup(1 << 63), level.counts().unwrap().placed), (Some(2), 3));
     ///
     /// let spoilt = Level::from_parts(settings, &groups, vec![3, 4, 0], vec![0b10111]);
     /// assert_eq!(spoilt, Err(Error::Bitmap));
@@ -72,7 +121,7 @@ impl Level {
         bitmap: Vec<u64>,
     ) -> Result<Level, Error> {
         check_level(settings, groups, &seeds, &bitmap)?;
-        let counts = counts(groups, &seeds);
+        let counts = Some(counts(groups, &seeds));
         Ok(Level { settings, seeds, bitmap, counts })
     }
 
@@ -84,7 +133,7 @@ impl Level {
     /// The slot of a hash, or none where its bucket was bumped. A hash that was no key gets some
     /// slot too.
     pub fn lookup(&self, hash: u64) -> Option<u64> {
-        lent::lookup(&self.settings, &self.seeds, hash).expect("a swept level is sound")
+        lent::lookup(&self.settings, &self.seeds, hash).expect("a finished level is sound")
     }
 
     /// The slot of each hash, or none where its bucket was bumped.
@@ -105,7 +154,7 @@ impl Level {
         let taken: u64 = self.bitmap.iter().map(|word| u64::from(word.count_ones())).sum();
         let mut list = vec![0; (self.settings.slots - taken) as usize];
         let count = lent::holes(self.settings.slots, &self.bitmap, &mut list);
-        assert_eq!(count, Ok(list.len()), "a swept level is sound");
+        assert_eq!(count, Ok(list.len()), "a finished level is sound");
         Holes(list.into_iter())
     }
 
@@ -115,8 +164,9 @@ impl Level {
         word.is_some_and(|word| word >> (slot % 64) & 1 == 1)
     }
 
-    /// How many keys were placed and bumped, and how many seeds are 0.
-    pub fn counts(&self) -> Counts {
+    /// How many keys were placed and bumped, and how many seeds are 0; none of a level that was read
+    /// from a file, which does not have its keys.
+    pub fn counts(&self) -> Option<Counts> {
         self.counts
     }
 
@@ -140,6 +190,15 @@ impl Level {
     pub fn into_parts(self) -> (Vec<u16>, Vec<u64>) {
         (self.seeds, self.bitmap)
     }
+}
+
+/// A bitmap in which every one of so many slots is taken.
+fn full_bitmap(slots: u64) -> Vec<u64> {
+    let mut bitmap = vec![u64::MAX; slots.div_ceil(64) as usize];
+    if let Some(last) = bitmap.last_mut().filter(|_| slots % 64 != 0) {
+        *last = (1 << (slots % 64)) - 1;
+    }
+    bitmap
 }
 
 /// Checks a finished level, whoever made it, against the keys it was made from. Accepted and refused:

@@ -19,7 +19,8 @@
 //!         None => {} // bumped: a key of the next level
 //!     }
 //! }
-//! assert_eq!(level.counts().placed + level.holes().len() as u64, 1000);
+//! let counts = level.counts().expect("the level was swept here");
+//! assert_eq!(counts.placed + level.holes().len() as u64, 1000);
 //! # Ok::<(), phastr::Error>(())
 //! ```
 //!

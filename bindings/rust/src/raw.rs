@@ -110,6 +110,31 @@ unsafe extern "C" {
     fn phastr_house_table(table: &mut [u32; HOUSE_ENTRIES]);
 
     fn phastr_log_table(table: *mut u32, table_len: usize) -> u64;
+
+    fn phastr_level_write(
+        m: u64,
+        log2_slice_len: u64,
+        ll: u64,
+        sb: u64,
+        buckets: u64,
+        seeds: *const u16,
+        seeds_len: usize,
+        holes: *const u32,
+        holes_len: usize,
+        out: *mut u8,
+        out_len: usize,
+        written: &mut u64,
+    ) -> u64;
+
+    fn phastr_level_read(
+        bytes: *const u8,
+        bytes_len: usize,
+        seeds: *mut u16,
+        seeds_len: usize,
+        holes: *mut u32,
+        holes_len: usize,
+        level: &mut [u64; 6],
+    ) -> u64;
 }
 
 /// m, log2_slice_len, ll, sb and B, as every call takes them.
@@ -241,6 +266,56 @@ pub(crate) fn house_table(table: &mut [u32; HOUSE_ENTRIES]) {
 pub(crate) fn log_table(table: &mut [u32]) -> u64 {
     // SAFETY: the pointer and length are those of one slice, borrowed for writing.
     unsafe { phastr_log_table(table.as_mut_ptr(), table.len()) }
+}
+
+/// Answers the number; out and written are zero where it is not 0.
+pub(crate) fn level_write(
+    s: &Settings,
+    seeds: &[u16],
+    holes: &[u32],
+    out: &mut [u8],
+    written: &mut u64,
+) -> u64 {
+    let [m, log2_slice_len, ll, sb, buckets] = numbers(s);
+    // SAFETY: each pointer and length is that of one slice; out is borrowed for writing.
+    unsafe {
+        phastr_level_write(
+            m,
+            log2_slice_len,
+            ll,
+            sb,
+            buckets,
+            seeds.as_ptr(),
+            seeds.len(),
+            holes.as_ptr(),
+            holes.len(),
+            out.as_mut_ptr(),
+            out.len(),
+            written,
+        )
+    }
+}
+
+/// Answers the number; seeds, holes and level are zero where it is not 0.
+pub(crate) fn level_read(
+    bytes: &[u8],
+    seeds: &mut [u16],
+    holes: &mut [u32],
+    level: &mut [u64; 6],
+) -> u64 {
+    // SAFETY: each pointer and length is that of one slice, and the two written to are borrowed for
+    // writing, so that nothing else reaches them.
+    unsafe {
+        phastr_level_read(
+            bytes.as_ptr(),
+            bytes.len(),
+            seeds.as_mut_ptr(),
+            seeds.len(),
+            holes.as_mut_ptr(),
+            holes.len(),
+            level,
+        )
+    }
 }
 
 #[cfg(test)]

@@ -165,7 +165,7 @@ fn hold_together(level: &Level, keys: &[u64]) {
         }
     }
     let placed = found.iter().flatten().count() as u64;
-    let counts = level.counts();
+    let counts = level.counts().unwrap();
     assert_eq!((counts.placed, counts.bumped), (placed, keys.len() as u64 - placed));
     assert_eq!(counts.zero, level.seeds().iter().filter(|&&seed| seed == 0).count() as u64);
     let free: Vec<u32> = (0..marked.len() as u32).filter(|&i| !marked[i as usize]).collect();

@@ -100,7 +100,7 @@ pub fn encode(value: u64, out: &mut [u8], at: usize) -> Encoded
 }
 
 // How many groups a number has: one, and one more for each seven bits that are left.
-fn group_count(value: u64) -> usize
+pub fn group_count(value: u64) -> usize
     ensures { λ r. ⌜ r ≡ length (encoded value) ⌝ }
 {
     let mut count = 1;
@@ -113,7 +113,7 @@ fn group_count(value: u64) -> usize
 }
 
 // Writes the groups of a number from a place on, and answers the place after them.
-fn put_groups(value: u64, out: &mut [u8], at: usize) -> usize
+pub fn put_groups(value: u64, out: &mut [u8], at: usize) -> usize
     requires { ⌜ at + length (encoded value) ≤ length (now out) ⌝ }
     ensures { λ r. ⌜ r ≡ at + length (encoded value) ⌝ }
     ensures { λ _. ⌜ now (out .exit) ≡ sets (now (out .entry)) at (encoded value) ⌝ }

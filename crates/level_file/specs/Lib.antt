@@ -1,0 +1,5 @@
+pub mod Taking
+pub mod Format
+pub mod Reading
+pub mod Answer
+pub mod Writing
