@@ -50,6 +50,8 @@ pub enum Error {
     BucketSize,
     /// 17: there are more than 67,108,864 keys.
     Keys,
+    /// 20: a sweep in no chunk.
+    Chunks,
     /// 21: a table to be filled has no entries, or more than 131,072.
     TableLength,
     /// 28: a seed has more than sb bits, or an empty bucket has one that is not 0.
@@ -84,6 +86,7 @@ impl Error {
             15 => Error::HoleBuffer,
             16 => Error::BucketSize,
             17 => Error::Keys,
+            20 => Error::Chunks,
             21 => Error::TableLength,
             28 => Error::BadSeed,
             29 => Error::SlotTwice { bucket },
@@ -126,6 +129,7 @@ impl Error {
                 (16, "bucket size not in 1 to min(2^log2_slice_len/8, 64), NaN included")
             }
             Error::Keys => (17, "k above 67,108,864"),
+            Error::Chunks => (20, "chunk count 0"),
             Error::TableLength => (21, "length 0 or above 131,072"),
             Error::BadSeed => (28, "a seed of 2^sb or more, or a nonzero one for an empty bucket"),
             Error::SlotTwice { .. } => (29, "a slot met twice"),
