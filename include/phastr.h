@@ -66,6 +66,7 @@ enum phastr_number {
     PHASTR_HOLE_BUFFER = 15,       /* hole list longer than its buffer */
     PHASTR_BUCKET_SIZE = 16,       /* bucket size not in 1 to min(2^log2_slice_len/8, 64), NaN included */
     PHASTR_KEYS = 17,              /* k above 67,108,864 */
+    PHASTR_CHUNKS = 20,            /* chunk count 0 */
     PHASTR_TABLE_LENGTH = 21,      /* length 0 or above 131,072 */
     PHASTR_FILE_SHORT = 22,        /* file ends or a number exceeds 64 bits or ten groups */
     PHASTR_FILE_VERSION = 23,      /* version not 1 */
@@ -124,13 +125,16 @@ uint64_t phastr_log_table(uint32_t *table, size_t table_len);
  *            PHastR's for at most 8 bits of a seed: -52000, 53315, 105861, 138629, 156944, 175176,
  *            186591; for more: 46000, 55041, 137806, 184081, 217321, 241846, 256427.
  *   bump     whether a bucket that no seed fits is bumped. If not, it ends the sweep with 14.
+ *   chunks   into how many chunks the buckets may be split: 1 for none of it, and what is too many is
+ *            cut, so that each chunk has at least 4,096 buckets and 64 gaps. Each chunk is swept by
+ *            itself, all but the last a gap short, and then the gaps; what is lent is the same.
  *   hashes   bucket after bucket, in any order within one. Sorted hashes stand so.
  *   begins   B + 1 numbers: bucket b's hashes are those from begins[b] to before begins[b + 1].
  *   table    of logarithms (phastr_house_table, phastr_log_table), as long as phastr_sizes says.
  *   seeds    B of them; bitmap: ceil(m/64) words; work: at least W words (phastr_sizes). What they
  *            hold before does not matter.
  *
- * Answers 0 or 1 to 14.
+ * Answers 0 or the first that applies of 1 to 8, 20 and 9 to 14, in this order.
  * At 0, seeds has one seed to a bucket, 0 for one that is empty or was bumped; bitmap has slot i at
  * bit i mod 64 of word i / 64, set where a key took the slot, and its bits from m on are 0;
  * counts[0] is the keys placed, counts[1] the keys bumped and counts[2] the buckets of seed 0. The
@@ -139,7 +143,7 @@ uint64_t phastr_log_table(uint32_t *table, size_t table_len);
  * and the first W words of work are 0, and counts and work beyond are kept.
  */
 uint64_t phastr_sweep(uint64_t m, uint64_t log2_slice_len, uint64_t ll, uint64_t sb,
-                      uint64_t buckets, const int64_t weights[7], bool bump,
+                      uint64_t buckets, const int64_t weights[7], bool bump, uint64_t chunks,
                       const uint64_t *hashes, size_t hashes_len,
                       const uint32_t *begins, size_t begins_len,
                       const uint32_t *table, size_t table_len,

@@ -1,11 +1,12 @@
-"""Documents 01 and 02 word by word: rules G, W and S with every candidate tried against a set of taken slots, the numbers, the program, the check of a
-level, and tables of logarithms."""
+"""Documents 01 and 02 word by word: rules G, W and S with every candidate tried against a set of taken slots, the ranges of a sweep in chunks, the
+numbers, the program, the check of a level, and tables of logarithms."""
 from collections import namedtuple
 from decimal import Decimal, getcontext
-from itertools import accumulate, chain
+from itertools import accumulate, chain, takewhile
 
 getcontext().prec = 40
 Settings = namedtuple("Settings", "m slice ll sb buckets")
+How = namedtuple("How", "bump chunks")
 WORD = 2**64
 
 
@@ -67,13 +68,23 @@ def weight(weights, size):
     return max(-(2**40), min(2**40, (weights[6] - weights[5]) * (size - 7) + weights[6]))
 
 
-def turns(weights, sizes):
-    left = [b for b, size in enumerate(sizes) if size]
+def turns(weights, sizes, lo, hi):
+    left = [b for b in range(lo, hi) if sizes[b]]
     while left:
-        window = [b for b in left if b < left[0] + 256]
+        window = takewhile(lambda b: b < left[0] + 256, left)
         b = min(window, key=lambda b: (1024 * b - weight(weights, sizes[b]), b % 1024))
         left.remove(b)
         yield b
+
+
+# 02, 1/14: the ranges that are swept one after another
+def ranges(g, c):
+    gap = g.l * g.s.buckets // g.ns + 1
+    chunks = max(1, min(c, g.s.buckets // max(64 * gap, 4096)))
+    bounds = [i * g.s.buckets // chunks for i in range(chunks + 1)]
+    inner = bounds[1:-1]
+    ends = [end - gap for end in inner] + [g.s.buckets]
+    return list(zip(bounds, ends)) + [(end - gap, end) for end in inner]
 
 
 # S
@@ -90,14 +101,15 @@ def seed_of(g, b, keys, table, taken):
     return min(found)[3] if found else 0
 
 
-def sweep(g, weights, bump, groups, table):
+def sweep(g, weights, how, groups, table):
     """The bucket that 14 names, or None; the seeds; the taken slots."""
     seeds, taken = [0] * len(groups), set()
-    for b in turns(weights, [len(keys) for keys in groups]):
+    sizes = [len(keys) for keys in groups]
+    for b in chain(*(turns(weights, sizes, lo, hi) for lo, hi in ranges(g, how.chunks))):
         seeds[b] = seed_of(g, b, groups[b], table, taken)
         if seeds[b]:
             taken.update(g.position(h, seeds[b]) for h in groups[b])
-        elif not bump:
+        elif not how.bump:
             return b, [0] * len(groups), set()
     return None, seeds, taken
 
@@ -141,13 +153,15 @@ def grouped(hashes, begins):
     return [hashes[x:y] for x, y in zip(begins, begins[1:])]
 
 
-# the numbers 1 to 13, or 0
-def number(s, weights, hashes, begins, table, seeds, bitmap, work):
+# the numbers 1 to 8, 20 and 9 to 13, or 0
+def number(s, weights, how, hashes, begins, table, seeds, bitmap, work):
     if number_to_7(s):
         return number_to_7(s)
     g = Geometry(s)
     if any(abs(w) > 2**32 for w in weights):
         return 8
+    if how.chunks == 0:
+        return 20
     if number_of_groups(g, hashes, begins):
         return number_of_groups(g, hashes, begins)
     if len(table) < g.entries or table[: g.entries] != sorted(table[: g.entries]):
@@ -223,15 +237,16 @@ def listing(data):
     if asked is None:
         return "refused 18\n"
     s, weights, bump, groups = asked
+    how = How(bump, 1)
     hashes, begins = list(chain(*groups)), [0, *accumulate(map(len, groups))]
     if s.m > 1024 or s.buckets > 64 or len(hashes) > 128:
         return "refused 19\n"
     if not number_to_7(s) and Geometry(s).work(max(map(len, groups))) > 8192:
         return "refused 19\n"
-    said = number(s, weights, hashes, begins, HOUSE, s.buckets, -(-s.m // 64), 8192)
+    said = number(s, weights, how, hashes, begins, HOUSE, s.buckets, -(-s.m // 64), 8192)
     if said:
         return f"refused {said}\n"
-    stopped, seeds, taken = sweep(Geometry(s), weights, bump, groups, HOUSE)
+    stopped, seeds, taken = sweep(Geometry(s), weights, how, groups, HOUSE)
     if stopped is not None:
         return f"refused 14 {stopped}\n"
     holes = [i for i in range(s.m) if i not in taken]

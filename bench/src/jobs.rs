@@ -113,7 +113,7 @@ impl Bench {
     pub fn rust(&mut self, job: Job) {
         let s = &self.case.settings;
         match job {
-            Job::Sweep => assert!(black_box(oracle::swept(&self.case, 1)).is_some()),
+            Job::Sweep => assert!(black_box(oracle::swept(&self.case)).is_some()),
             Job::Checks | Job::Check => {}
             Job::Holes => {
                 black_box(oracle::holes(&self.bitmap, s.m));
@@ -129,7 +129,7 @@ impl Bench {
         self.ours(Job::Sweep);
         self.ours(Job::Holes);
         self.rust(Job::Lookups);
-        let (seeds, bitmap) = oracle::swept(&self.case, 1).expect("a sweep that may bump");
+        let (seeds, bitmap) = oracle::swept(&self.case).expect("a sweep that may bump");
         let holes = oracle::holes(&bitmap, self.case.settings.m);
         let listed = self.holes[..holes.len()].iter().map(|&hole| hole as usize);
         let level = seeds == self.seeds && *bitmap == self.bitmap[..] && listed.eq(holes);

@@ -4,22 +4,23 @@ import sys
 from pathlib import Path
 
 sys.path.insert(0, str(Path(__file__).resolve().parents[2] / "tools"))
-from document01 import HOUSE, WORD, Geometry, Settings, counts, number, sweep
+from document01 import HOUSE, WORD, Geometry, How, Settings, counts, number, sweep
 
 KEPT = 999
 ZERO = [0] * 7
 ALL = 15200
 
 
-def case(s, weights, bump, hashes, begins, table, seeds, bitmap, work):
+def case(s, weights, bump, hashes, begins, table, seeds, bitmap, work, chunks=1):
+    how = How(bump, chunks)
     given, marked, zeros = [KEPT] * 6, [KEPT] * 4, 0
-    said = number(s, weights, hashes, begins, table, seeds, bitmap, work)
+    said = number(s, weights, how, hashes, begins, table, seeds, bitmap, work)
     if said:
         answer = f"refused {said}"
     else:
         g = Geometry(s)
         groups = [hashes[x:y] for x, y in zip(begins, begins[1:])]
-        stopped, found, taken = sweep(g, weights, bump, groups, table)
+        stopped, found, taken = sweep(g, weights, how, groups, table)
         if stopped is None:
             answer = "done {} {} {}".format(*counts(groups, found))
         else:
@@ -27,7 +28,7 @@ def case(s, weights, bump, hashes, begins, table, seeds, bitmap, work):
         given[:seeds] = found
         marked[:bitmap] = [sum(2 ** (i % 64) for i in taken if i // 64 == w) for w in range(bitmap)]
         zeros = g.work(max(map(len, groups)))
-    print(*s, int(bump), len(hashes), len(begins), len(table), seeds, bitmap, work, end=" ")
+    print(*s, int(bump), chunks, len(hashes), len(begins), len(table), seeds, bitmap, work, end=" ")
     print(answer, "seeds", *given, "bitmap", *marked, "work", zeros, ALL)
 
 
@@ -58,7 +59,7 @@ settings(0, 3, 0, 4, 0)
 settings(134_217_728, 3, 0, 4, 2)
 weighed(4104, 3, 0, 4, 1, 2**32 + 1)
 
-# 8 to 14
+# 8, 20 and 9 to 14
 ONE, THREE = Settings(7, 3, 0, 4, 1), Settings(7, 3, 0, 4, 3)
 TOP = 2**32
 for weights in (
@@ -66,6 +67,11 @@ for weights in (
     ZERO[1:] + [TOP + 1], ZERO[1:] + [-TOP - 1], [0, 0, 0, 1 - 2**63, 0, 0, 0],
 ):  # fmt: skip
     case(ONE, weights, True, [0], [0, 1], HOUSE, 1, 1, 2883)
+
+for chunks, first, begins in (
+    (0, 0, [0, 1]), (1, 0, [0, 1]), (2, 0, [0, 1]), (WORD - 1, 0, [0, 1]), (0, TOP + 1, [0, 1]), (0, 0, [0]), (1, 0, [0]),
+):  # fmt: skip
+    case(ONE, [first] + ZERO[1:], True, [0], begins, HOUSE, 1, 1, 2883, chunks)
 
 
 def one(hashes, begins):

@@ -1,6 +1,6 @@
 /*
- * Levels by way of the library: document 01's listing, and some thousand generated keys in slices of
- * 1,024 slots and in longer ones, checked.
+ * Levels by way of the library, each checked: document 01's listing, some thousand generated keys in slices
+ * of 1,024 slots and in longer ones, and some more in two chunks.
  *
  *   folder=$(tools/library)
  *   cc -std=c99 -Wall -Wextra -Werror -Iinclude examples/c/level.c "$folder/libexports.a" -o level
@@ -71,7 +71,7 @@ static void group(struct level *level) {
 }
 
 /* Finds out what the sweep wants lent, lends it, and sweeps. */
-static void sweep(struct level *level, const int64_t weights[7]) {
+static void sweep(struct level *level, const int64_t weights[7], uint64_t chunks) {
     const struct settings s = level->s;
     uint64_t sizes[3] = {0}, bucket = 0, number;
     number = phastr_sizes(s.m, s.log2_slice_len, s.ll, s.sb, s.buckets, level->largest, sizes);
@@ -85,9 +85,9 @@ static void sweep(struct level *level, const int64_t weights[7]) {
     number = phastr_log_table(table, (size_t)sizes[1]);
     if (number != PHASTR_OK)
         fail("table", number);
-    number = phastr_sweep(s.m, s.log2_slice_len, s.ll, s.sb, s.buckets, weights, true, level->hashes,
-                          (size_t)level->keys, level->begins, (size_t)s.buckets + 1, table,
-                          (size_t)sizes[1], level->seeds, (size_t)s.buckets, level->bitmap,
+    number = phastr_sweep(s.m, s.log2_slice_len, s.ll, s.sb, s.buckets, weights, true, chunks,
+                          level->hashes, (size_t)level->keys, level->begins, (size_t)s.buckets + 1,
+                          table, (size_t)sizes[1], level->seeds, (size_t)s.buckets, level->bitmap,
                           (size_t)sizes[2], work, (size_t)sizes[0], level->counts, &bucket);
     if (number != PHASTR_OK)
         fail("sweep", number);
@@ -146,7 +146,7 @@ static void listing(void) {
     for (int i = 0; i < 3; i++)
         level.hashes[i] = keys[i];
     group(&level);
-    sweep(&level, weights);
+    sweep(&level, weights, 1);
     print_list(&level);
     let_go(&level);
 }
@@ -246,8 +246,8 @@ static void check_spoilt(struct level *level) {
     printf("; with a key twice: refused %" PRIu64 ", bucket %" PRIu64 "\n", number, bucket);
 }
 
-/* Some thousand keys: as many slots as keys, and but for the slices PHastR's defaults. */
-static void generated(uint64_t keys, uint64_t log2_slice_len) {
+/* Generated keys: as many slots as keys, and but for the slices PHastR's defaults. */
+static void generated(uint64_t keys, uint64_t log2_slice_len, uint64_t chunks) {
     static const int64_t weights[7] = {-52000, 53315, 105861, 138629, 156944, 175176, 186591};
     struct level level = {.s = {keys, log2_slice_len, 2, 8, 0}, .keys = keys};
     uint64_t number = phastr_bucket_count(log2_slice_len, keys, 4.25, &level.s.buckets);
@@ -258,16 +258,16 @@ static void generated(uint64_t keys, uint64_t log2_slice_len) {
     for (uint64_t i = 0; i < keys; i++)
         level.hashes[i] = spread(i + 1);
     group(&level);
-    sweep(&level, weights);
+    sweep(&level, weights, chunks);
     uint32_t *list = holes(&level, &count);
     uint64_t written = hand_round(&level, list, count);
     free(list);
     uint64_t bumped = look_up_all(&level);
     if (bumped != level.counts[1] || level.counts[0] + bumped != keys || count != bumped)
         fail("counts", bumped);
-    printf("%" PRIu64 " keys in %" PRIu64 " buckets: %" PRIu64 " placed, %" PRIu64
+    printf("%" PRIu64 " keys in %" PRIu64 " buckets, %" PRIu64 " chunks: %" PRIu64 " placed, %" PRIu64
            " bumped, %" PRIu64 " buckets of seed 0, %" PRIu64 " holes; a file of %" PRIu64 " bytes\n",
-           keys, level.s.buckets, level.counts[0], bumped, level.counts[2], count, written);
+           keys, level.s.buckets, chunks, level.counts[0], bumped, level.counts[2], count, written);
     check_spoilt(&level);
     let_go(&level);
 }
@@ -309,9 +309,11 @@ static void tables(void) {
 
 int main(void) {
     listing();
-    generated(1, 10);
-    generated(5000, 10);
-    generated(40000, 14);
+    generated(1, 10, 1);
+    generated(5000, 10, 1);
+    generated(40000, 14, 1);
+    generated(150000, 10, 1);
+    generated(150000, 10, 2);
     tables();
     refused();
     return 0;

@@ -17,6 +17,8 @@ pub struct Settings {
 pub struct Case {
     pub settings: Settings,
     pub bump: bool,
+    /// The sweep is split into at most so many chunks.
+    pub chunks: usize,
     pub weights: [i64; 7],
     pub begins: Vec<u32>,
     pub hashes: Vec<u64>,
@@ -63,7 +65,7 @@ impl Figures {
 }
 
 impl Case {
-    /// A case of these buckets' hashes.
+    /// A case of these buckets' hashes, in one chunk.
     pub fn new(settings: Settings, bump: bool, weights: [i64; 7], buckets: &[Vec<u64>]) -> Case {
         let mut begins = vec![0];
         let mut hashes = vec![];
@@ -71,7 +73,7 @@ impl Case {
             hashes.extend_from_slice(bucket);
             begins.push(hashes.len() as u32);
         }
-        Case { settings, bump, weights, begins, hashes }
+        Case { settings, bump, chunks: 1, weights, begins, hashes }
     }
 
     pub fn keys(&self, bucket: usize) -> &[u64] {
@@ -87,14 +89,13 @@ impl Case {
     }
 }
 
-/// The Rust's outcome in one chunk. The Rust does not say at which bucket it stopped: up to there
-/// the sweep is the same as one that may bump, so it is the first bucket of the order that then has
-/// seed 0.
+/// The Rust's outcome. The Rust does not say at which bucket it stopped: up to there the sweep is the
+/// same as one that may bump, so it is the first bucket of the order that then has seed 0.
 pub fn outcome(case: &Case) -> Outcome {
-    if let Some(answer) = sweep(case, 1) {
+    if let Some(answer) = sweep(case) {
         return Outcome::Done(answer);
     }
-    let bumping = sweep(&Case { bump: true, ..case.clone() }, 1).expect("a bumping sweep ends");
+    let bumping = sweep(&Case { bump: true, ..case.clone() }).expect("a bumping sweep ends");
     let stopped = order(case).into_iter().find(|&b| bumping.seeds[b] == 0);
     Outcome::Stopped(stopped.expect("a sweep that stopped has a bucket without a seed"))
 }

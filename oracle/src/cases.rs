@@ -171,7 +171,7 @@ pub fn family_of(seed: u64, k: usize, m: usize, bucket_size: f64, setting: Setti
     }
     let settings = settings(setting, m, buckets);
     let weights = default_weights(settings.seed_bits);
-    Case { settings, bump: true, weights, begins, hashes }
+    Case { settings, bump: true, chunks: 1, weights, begins, hashes }
 }
 
 /// The fewest buckets that check 7 allows, made odd.

@@ -2,6 +2,7 @@
 
 pub mod case;
 pub mod cases;
+pub mod chunked;
 pub mod domain;
 pub mod geometry;
 pub mod house;

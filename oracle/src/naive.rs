@@ -1,8 +1,9 @@
-//! Rules G, W and S of document 01, word by word and without any of the Rust's shortcuts: every
+//! Rules G, W and S of document 01 and document 02's chunks, word by word and without any of the Rust's shortcuts: every
 //! candidate of a bucket is tried. It is slow. The tests hold it to the Rust, so that what the
 //! document says and what the Rust does are known to be the same, and the shapes are read off it.
 
 use crate::{Case, Figures, Settings, log2_table};
+use std::ops::Range;
 
 /// Rule G's figures.
 pub fn figures(s: &Settings) -> Figures {
@@ -40,10 +41,31 @@ pub struct Turn {
     pub equal_hashes: bool,
 }
 
-/// The order, by rule W, with the next bucket looked for among the 256 from the oldest on.
+/// The ranges of buckets that are swept one after another, by document 02's first request: each chunk but
+/// the last stops a gap early, and the gaps follow.
+pub fn ranges(s: &Settings, chunks: usize) -> Vec<Range<usize>> {
+    let f = figures(s);
+    let gap = f.slice_len * s.buckets / f.slices + 1;
+    let count = chunks.min(s.buckets / 4096.max(64 * gap)).max(1);
+    let bounds: Vec<usize> = (0..=count).map(|i| i * s.buckets / count).collect();
+    let end = |i: usize| if i + 1 < count { bounds[i + 1] - gap } else { s.buckets };
+    let mut all: Vec<Range<usize>> = (0..count).map(|i| bounds[i]..end(i)).collect();
+    all.extend((1..count).map(|i| bounds[i] - gap..bounds[i]));
+    all
+}
+
+/// The order, by rule W within each range.
 pub fn order(case: &Case) -> Vec<usize> {
+    ranges(&case.settings, case.chunks)
+        .into_iter()
+        .flat_map(|range| order_in(case, range))
+        .collect()
+}
+
+/// Rule W in a range, with the next bucket looked for among the 256 from the oldest on.
+fn order_in(case: &Case, range: Range<usize>) -> Vec<usize> {
     let sizes = case.sizes();
-    let mut left: Vec<usize> = (0..sizes.len()).filter(|&b| sizes[b] != 0).collect();
+    let mut left: Vec<usize> = range.filter(|&b| sizes[b] != 0).collect();
     let mut taken = vec![];
     while let Some(&oldest) = left.first() {
         let near = left.iter().take_while(|&&b| b <= oldest + 255).enumerate();

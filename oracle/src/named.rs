@@ -21,6 +21,7 @@ pub fn all(seed: u64) -> Vec<Named> {
     all.extend(limits(&mut random));
     all.extend(forbidden(&mut random));
     all.extend(families(&mut random));
+    all.extend(mixed_large(&mut random));
     all
 }
 
@@ -65,6 +66,42 @@ fn large_buckets(random: &mut Random) -> Vec<Named> {
     let down = [0, 0, 0, 0, 0, TOP, -TOP];
     let under = |weights| ("large buckets", Case { weights, bump: true, ..case.clone() });
     [case.weights, [0; 7], up, down].into_iter().map(under).collect()
+}
+
+/// Buckets of 64 to 4,096 keys among small ones, about 1,024: under weights that fall with the size, where large
+/// ones wait until they are the oldest, that rise with it, that are held, and that are all the same. The two kinds
+/// in steps of a bucket's number tie often, 1,023 and 1,024 among them.
+fn mixed_large(random: &mut Random) -> Vec<Named> {
+    let down = [0, 0, 0, 0, 0, 0, -1024];
+    let up = [0, 0, 0, 0, 0, 0, 1024];
+    let kinds = [
+        ("large buckets that wait", down, (65, 64)),
+        ("large buckets that go ahead", up, (64, 65)),
+        ("large buckets of held weight", [0, 0, 0, 0, 0, -TOP, TOP], (64, 4096)),
+        ("large buckets held back", [0, 0, 0, 0, 0, TOP, -TOP], (4096, 64)),
+        ("large buckets of one weight", [0; 7], (64, 64)),
+    ];
+    let mut case = |weights, (last, first)| {
+        let mut sizes: Vec<usize> = (0..1501).map(|b| mixed_size(random, b)).collect();
+        (sizes[1023], sizes[1024]) = (last, first);
+        let case = fill(random, settings(WIDE, 60_000, 1501), &sizes);
+        Case { weights, bump: true, ..case }
+    };
+    kinds.map(|(name, weights, pair)| (name, case(weights, pair))).to_vec()
+}
+
+/// A size of `mixed_large`: about 1,024 one bucket in four has 64 keys and more.
+fn mixed_size(random: &mut Random, b: usize) -> usize {
+    if !(700..1400).contains(&b) {
+        return random.below(4);
+    }
+    match random.below(16) {
+        0 => random.from_to(60, 68),
+        1 | 2 => random.from_to(64, 100),
+        3 if random.one_in(20) => random.from_to(2000, 4096),
+        3 => random.from_to(64, 400),
+        _ => random.below(8),
+    }
 }
 
 /// The largest bucket that is accepted, and the most slices to a bucket.

@@ -6,7 +6,7 @@
 use crate::case::{Answer, Case, Figures, Settings};
 use builder::Geometry;
 use dsi_progress_logger::ProgressLog;
-use std::ops::Deref;
+use std::ops::{Deref, Range};
 use sweep::{Level, PartSource};
 
 /// Stand-ins for the two traits of the progress logger: they say nothing.
@@ -88,21 +88,21 @@ mod pieces {
         Window::key(weight, bucket)
     }
 
-    /// The order in which the Rust's window gives the buckets of one chunk: the loop of
+    /// The order in which the Rust's window gives the buckets of a range: the loop of
     /// `Sweep::sweep` around it, with nothing placed.
-    pub(super) fn order(sizes: &[usize], weights: &[i64; 7]) -> Vec<usize> {
+    pub(super) fn order(sizes: &[usize], weights: &[i64; 7], range: Range<usize>) -> Vec<usize> {
         let mut window = Window::new(weights);
         let mut taken = vec![];
-        let (mut oldest, mut next) = (0, 0);
+        let (mut oldest, mut next) = (range.start, range.start);
         loop {
             if window.is_empty() {
-                let Some(ahead) = sizes[next..].iter().position(|&size| size != 0) else {
+                let Some(ahead) = sizes[next..range.end].iter().position(|&size| size != 0) else {
                     return taken;
                 };
                 oldest = next + ahead;
                 next = oldest;
             }
-            let end = (oldest + WINDOW).min(sizes.len());
+            let end = (oldest + WINDOW).min(range.end);
             for (b, &size) in sizes.iter().enumerate().take(end).skip(next) {
                 if size != 0 {
                     window.push(b, size, weights);
@@ -156,7 +156,7 @@ impl PartSource for Handed<'_> {
         _: &mut (),
         _: usize,
         _: &Geometry,
-        range: std::ops::Range<usize>,
+        range: Range<usize>,
         sigs: &mut Vec<u64>,
         begin: &mut Vec<usize>,
         _: &mut Vec<u64>,
@@ -184,10 +184,9 @@ fn geometry(s: &Settings, chunks: usize) -> Geometry {
     g
 }
 
-/// The sweep alone: seeds and bitmap, in at most `chunks` chunks. None: bumping is forbidden and some
-/// bucket got 0.
-pub fn swept(case: &Case, chunks: usize) -> Option<(Vec<u16>, impl Deref<Target = [u64]> + use<>)> {
-    let g = geometry(&case.settings, chunks);
+/// The sweep alone: seeds and bitmap. None: bumping is forbidden and some bucket got 0.
+pub fn swept(case: &Case) -> Option<(Vec<u16>, impl Deref<Target = [u64]> + use<>)> {
+    let g = geometry(&case.settings, case.chunks);
     let source = Handed { hashes: &case.hashes, begins: &case.begins };
     let mut log = dsi_progress_logger::Silent;
     let level: Level<u16> = sweep::sweep_level(&source, &g, &case.weights, case.bump, &mut log)?;
@@ -200,8 +199,8 @@ pub fn holes(bitmap: &[u64], m: usize) -> Vec<usize> {
 }
 
 /// Sweeps a case and lists its holes.
-pub fn sweep(case: &Case, chunks: usize) -> Option<Answer> {
-    let (seeds, bitmap) = swept(case, chunks)?;
+pub fn sweep(case: &Case) -> Option<Answer> {
+    let (seeds, bitmap) = swept(case)?;
     let holes = holes(&bitmap, case.settings.m);
     Some(Answer {
         seeds,
@@ -222,6 +221,23 @@ pub fn lookups(s: &Settings, seeds: &[u16], hashes: &[u64], found: &mut [Option<
 /// How many chunks a sweep of at most `chunks` makes.
 pub fn chunks(s: &Settings, chunks: usize) -> usize {
     geometry(s, chunks).sweep_chunks()
+}
+
+/// The buckets between two chunks.
+pub fn chunk_gap(s: &Settings) -> usize {
+    geometry(s, 1).chunk_gap() as usize
+}
+
+/// The ranges of buckets that a sweep of at most `chunks` chunks takes one after another: its chunks, each
+/// but the last a gap short, then the gaps. `sweep_level` keeps them to itself; the numbers are its own.
+pub fn ranges(s: &Settings, chunks: usize) -> Vec<Range<usize>> {
+    let g = geometry(s, chunks);
+    let (count, gap) = (g.sweep_chunks(), g.chunk_gap() as usize);
+    let bound = |i: usize| (i as u64 * s.buckets as u64 / count as u64) as usize;
+    let short = (1..count).map(|i| bound(i - 1)..bound(i) - gap);
+    let last = std::iter::once(bound(count - 1)..s.buckets);
+    let gaps = (1..count).map(|i| bound(i) - gap..bound(i));
+    short.chain(last).chain(gaps).collect()
 }
 
 pub fn figures(s: &Settings) -> Figures {
@@ -258,9 +274,11 @@ pub fn bucket_count(k: usize, bucket_size: f64) -> usize {
     builder.geometry(k, 1, bucket_size).buckets
 }
 
-/// The order in which buckets are taken, in one chunk.
+/// The order in which buckets are taken.
 pub fn order(case: &Case) -> Vec<usize> {
-    pieces::order(&case.sizes(), &case.weights)
+    let sizes = case.sizes();
+    let ranges = ranges(&case.settings, case.chunks).into_iter();
+    ranges.flat_map(|range| pieces::order(&sizes, &case.weights, range)).collect()
 }
 
 pub fn weight(weights: &[i64; 7], size: usize) -> i64 {

@@ -46,6 +46,8 @@ pub const ALL: &[&str] = &[
     "tie across 1023 and 1024",
     "large tie across 1023 and 1024",
     "taken out of order",
+    "large bucket waits",
+    "large bucket goes ahead",
     "10^5 keys",
     "bumping forbidden and done",
     "bumping forbidden and stopped",
@@ -177,6 +179,13 @@ impl Met {
             across.iter().any(|w| sizes[w[0]].min(sizes[w[1]]) >= 64),
         );
         self.note("taken out of order", order.windows(2).any(|w| w[0] > w[1]));
+        let large = |test: &dyn Fn(usize, usize) -> bool| {
+            order.iter().enumerate().any(|(at, &b)| sizes[b] >= 64 && test(at, b))
+        };
+        let later = |taken: &[usize], b: usize| taken.iter().filter(|&&x| x > b).count();
+        let earlier = |left: &[usize], b: usize| left.iter().filter(|&&x| x < b).count();
+        self.note("large bucket waits", large(&|at, b| later(&order[..at], b) >= 100));
+        self.note("large bucket goes ahead", large(&|at, b| earlier(&order[at..], b) >= 100));
     }
 
     fn note_answer(&mut self, case: &Case) {

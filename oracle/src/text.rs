@@ -77,7 +77,7 @@ pub fn read(text: &str) -> Result<Vec<Case>, String> {
             let end = begins[begins.len() - 1].checked_add(size);
             begins.push(end.ok_or("the sizes add up to more than 32 bits")?);
         }
-        cases.push(Case { settings, bump: bump == 1, weights, begins, hashes });
+        cases.push(Case { settings, bump: bump == 1, chunks: 1, weights, begins, hashes });
     }
     Ok(cases)
 }

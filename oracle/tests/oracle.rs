@@ -1,6 +1,7 @@
 //! The generator stays in the domain and meets every shape, and document 01 says what the Rust does.
 
 use oracle::cases;
+use oracle::chunked;
 use oracle::random::Random;
 use oracle::shapes::Met;
 use oracle::{
@@ -187,7 +188,7 @@ fn the_house_rule_holds_for_the_rusts_table() {
 fn several_chunks_are_swept() {
     let case = cases::family(cases::SEED, 1_000_000);
     assert_eq!((chunks(&case.settings, 1), chunks(&case.settings, 4)), (1, 4));
-    let (one, four) = (sweep(&case, 1).unwrap(), sweep(&case, 4).unwrap());
+    let (one, four) = (sweep(&case).unwrap(), sweep(&Case { chunks: 4, ..case.clone() }).unwrap());
     assert_ne!(one.seeds, four.seeds);
     for answer in [one, four] {
         let placed: u32 = answer.bitmap.iter().map(|word| word.count_ones()).sum();
@@ -195,6 +196,40 @@ fn several_chunks_are_swept() {
         assert_eq!(placed as usize, seeded.map(|b| case.keys(b).len()).sum::<usize>());
         assert_eq!(placed as usize + answer.holes.len(), case.settings.m);
     }
+}
+
+#[test]
+fn chunked_cases_are_split() {
+    let (mut counts, mut gaps) = (vec![], vec![]);
+    for plan in chunked::plans() {
+        let s = plan.settings();
+        assert_eq!(domain::refused_settings(&s), None, "{s:?}");
+        let by_document = naive::ranges(&s, plan.chunks);
+        assert_eq!(by_document, oracle::ranges(&s, plan.chunks), "{s:?}");
+        if by_document.len() > 1 {
+            counts.push(chunks(&s, plan.chunks));
+            gaps.push(oracle::chunk_gap(&s));
+        }
+    }
+    assert!(counts.len() >= 300, "{}", counts.len());
+    assert_eq!((counts.iter().min(), counts.iter().max()), (Some(&2), Some(&64)));
+    assert!(gaps.iter().any(|&gap| gap <= 256) && gaps.iter().any(|&gap| gap > 256));
+}
+
+/// Whole sweeps in chunks, on the cases that the gate compares.
+#[test]
+fn document_02_says_what_the_rust_does() {
+    let mut compared = 0;
+    let cases = chunked::cases(seed(), chunked::few_plans());
+    for (i, case) in cases.filter(naive::is_small).enumerate() {
+        assert_eq!(domain::refused(&case), None, "{:?}", case.settings);
+        if let Some(found) = difference(naive_outcome(&case), outcome(&case)) {
+            panic!("case {i}, {:?}, {} chunks: {found}", case.settings, case.chunks);
+        }
+        compared += 1;
+    }
+    println!("{compared} sweeps in chunks compared");
+    assert!(compared >= 40, "{compared}");
 }
 
 #[test]

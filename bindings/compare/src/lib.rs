@@ -1,8 +1,8 @@
 //! The oracle's cases in the binding's terms, for what runs both sides.
 
 use oracle::Case;
-use phastr::Settings;
 use phastr::lent::Input;
+use phastr::{How, Settings};
 
 /// The settings of a case.
 pub fn settings(case: &Case) -> Settings {
@@ -21,7 +21,7 @@ pub fn input<'a>(case: &'a Case, table: &'a [u32]) -> Input<'a> {
     Input {
         settings: settings(case),
         weights: case.weights,
-        bump: case.bump,
+        how: How { bump: case.bump, chunks: case.chunks as u64 },
         hashes: &case.hashes,
         begins: &case.begins,
         table,

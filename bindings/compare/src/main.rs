@@ -1,6 +1,8 @@
 //! Sweeps through the Rust binding, held to PHastR's own sweep on the same cases, whose levels are checked too.
 //!
-//!     compare [SEED]             every setting, the named cases, 20,000 small ones, families of 10^5 and 10^6 keys, and of long slices
+//!     compare [SEED]             every setting, the named cases, 20,000 small ones, families of 10^5 and 10^6 keys and of
+//!                                long slices, and some sweeps in chunks
+//!     compare chunks [SEED]      sweeps in 2 to 64 chunks: each limit of the chunk count, 200 families, 10^6 keys
 //!     compare long [SEED]        10^6 small cases and a family of 10^7 keys
 //!     compare changed KIND       every setting, with one number of the Rust's changed: one difference must be found
 //!
@@ -14,7 +16,7 @@ mod rust;
 mod tally;
 
 use change::Change;
-use oracle::{Case, cases};
+use oracle::{Case, cases, chunked};
 use ours::Ours;
 use rust::Wanted;
 use std::process::ExitCode;
@@ -61,11 +63,16 @@ impl Run {
         self.tally.since(&before).say(what, began.elapsed());
     }
 
-    /// A family of so many keys, once more through the calls that own their memory.
+    /// A family of so many keys.
     fn family(&mut self, keys: usize, (setting, size): (cases::Setting, f64)) {
         let case = cases::family_of(self.seed, keys, keys, size, setting);
         let what = format!("family of {keys} keys, slices of 2^{}, sb {}", setting.0, setting.2);
-        self.compare(&what, std::iter::once(case.clone()));
+        self.owned(&what, case, size);
+    }
+
+    /// A family, once more through the calls that own their memory.
+    fn owned(&mut self, what: &str, case: Case, size: f64) {
+        self.compare(what, std::iter::once(case.clone()));
         let (began, before) = (Instant::now(), self.tally);
         ours::compare_owned(&case, size, &rust::answer(&case), &mut self.tally);
         self.tally.since(&before).say(&format!("{what}, owned"), began.elapsed());
@@ -90,6 +97,31 @@ impl Run {
         for log2_slice_len in LONG_SLICES {
             self.family(LONG_SLICES_KEYS, ((log2_slice_len, 2, 8), 4.25));
         }
+        self.split("in chunks", chunked::cases(self.seed ^ 4, chunked::few_plans()));
+    }
+
+    /// A million keys at the defaults, on so many slots, in at most so many chunks.
+    fn million(&mut self, slots: usize, chunks: usize) {
+        let case = chunked::million(self.seed, slots, chunks);
+        let made = oracle::chunks(&case.settings, chunks);
+        self.owned(&format!("10^6 keys on {slots} slots, in {made} chunks"), case, 4.25);
+    }
+
+    fn chunks(&mut self) {
+        let limits = chunked::cases(self.seed ^ 4, chunked::plans());
+        self.split("limits of the chunk count", limits);
+        self.split("in chunks", chunked::families(self.seed ^ 5, 200));
+        for (slots, chunks) in [(1_000_000, 16), (1_100_000, 16), (1_100_000, usize::MAX)] {
+            self.million(slots, chunks);
+        }
+    }
+
+    /// Compares cases and says how many of them were split.
+    fn split(&mut self, what: &str, cases: impl Iterator<Item = Case>) {
+        let mut count = 0;
+        let splits = |case: &Case| oracle::chunks(&case.settings, case.chunks) > 1;
+        self.compare(what, cases.inspect(|case| count += usize::from(splits(case))));
+        println!("{what}: {count} were split");
     }
 
     fn long(&mut self) {
@@ -113,6 +145,10 @@ fn run(words: &[&str]) -> Result<Tally, String> {
             if !run.change.made() {
                 return Err(format!("no case has a number of kind '{kind}' to change"));
             }
+        }
+        ["chunks", rest @ ..] => {
+            run = Run::new(seed(rest.first().copied())?, Change::None);
+            run.chunks();
         }
         ["long", rest @ ..] => {
             run = Run::new(seed(rest.first().copied())?, Change::None);

@@ -115,7 +115,8 @@ pub fn compare_owned(case: &Case, bucket_size: f64, wanted: &Wanted, tally: &mut
         .log2_layouts(s.log2_layouts)
         .log2_slice_len(s.log2_slice_len)
         .bucket_size(bucket_size)
-        .slots(s.m as u64);
+        .slots(s.m as u64)
+        .chunks(case.chunks as u64);
     let backwards = case.hashes.iter().rev().copied().collect();
     let level = builder.sweep(backwards).expect("a family lies in the domain");
     tally.cases += 1;

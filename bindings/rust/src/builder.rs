@@ -1,10 +1,10 @@
 //! Settings by name, and the way from hashes to a level.
 
-use crate::{Error, Groups, Level, Settings, default_weights, lent};
+use crate::{Error, Groups, How, Level, Settings, default_weights, lent};
 
 /// Makes levels. It starts from PHastR's defaults: 8-bit seeds, four layouts, slices of 1,024
-/// slots, buckets of 4.25 keys, as many slots as keys, the weights that go with the seeds, and
-/// bumping allowed.
+/// slots, buckets of 4.25 keys, as many slots as keys, the weights that go with the seeds, bumping
+/// allowed, and one chunk.
 ///
 /// ```
 /// use phastr::{Builder, Error};
@@ -29,6 +29,7 @@ pub struct Builder {
     buckets: Option<u64>,
     weights: Option<[i64; 7]>,
     bump: bool,
+    chunks: u64,
 }
 
 impl Default for Builder {
@@ -42,6 +43,7 @@ impl Default for Builder {
             buckets: None,
             weights: None,
             bump: true,
+            chunks: 1,
         }
     }
 }
@@ -96,6 +98,27 @@ impl Builder {
         Builder { bump, ..self }
     }
 
+    /// Into how many chunks the sweep is split: at least one, and what is too many is cut. The buckets
+    /// of each chunk are swept by themselves, and those of the gaps between two after them, as PHastR
+    /// does with several threads. Two chunks need at least 8,193 buckets, and at the other defaults some
+    /// 131,000 keys. The default is one.
+    ///
+    /// ```
+    /// use phastr::{Builder, Error};
+    ///
+    /// let hashes: Vec<u64> = (0..150_000u64).map(|i| i.wrapping_mul(0xD134_2543_DE82_EF95)).collect();
+    /// let one = Builder::new().sweep(hashes.clone())?;
+    /// let two = Builder::new().chunks(2).sweep(hashes.clone())?;
+    /// assert!(one.seeds() != two.seeds());
+    /// assert!(two == Builder::new().chunks(u64::MAX).sweep(hashes.clone())?);
+    ///
+    /// assert_eq!(Builder::new().chunks(0).sweep(hashes), Err(Error::Chunks));
+    /// # Ok::<(), Error>(())
+    /// ```
+    pub fn chunks(self, chunks: u64) -> Builder {
+        Builder { chunks, ..self }
+    }
+
     /// The settings of a level of so many keys. Refused: 3, 16 and 17, where no number of buckets
     /// was given.
     ///
@@ -124,6 +147,7 @@ impl Builder {
         let settings = self.settings(hashes.len() as u64)?;
         let groups = Groups::new(settings.buckets, hashes)?;
         let weights = self.weights.unwrap_or(default_weights(self.seed_bits));
-        Level::sweep(settings, weights, self.bump, &groups)
+        let how = How { bump: self.bump, chunks: self.chunks };
+        Level::sweep(settings, weights, how, &groups)
     }
 }

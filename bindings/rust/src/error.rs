@@ -50,6 +50,8 @@ pub enum Error {
     BucketSize,
     /// 17: there are more than 67,108,864 keys.
     Keys,
+    /// 20: a sweep in no chunk.
+    Chunks,
     /// 21: a table to be filled has no entries, or more than 131,072.
     TableLength,
     /// 22: a level file ends too early, or has a number of over 64 bits or ten groups.
@@ -95,6 +97,7 @@ impl Error {
             15 => Error::HoleBuffer,
             16 => Error::BucketSize,
             17 => Error::Keys,
+            20 => Error::Chunks,
             21 => Error::TableLength,
             22 => Error::FileShort,
             23 => Error::FileVersion,
@@ -142,6 +145,7 @@ impl Error {
                 (16, "bucket size not in 1 to min(2^log2_slice_len/8, 64), NaN included")
             }
             Error::Keys => (17, "k above 67,108,864"),
+            Error::Chunks => (20, "chunk count 0"),
             Error::TableLength => (21, "length 0 or above 131,072"),
             Error::FileShort => (22, "file ends or a number exceeds 64 bits or ten groups"),
             Error::FileVersion => (23, "version not 1"),

@@ -4,7 +4,7 @@
 //! and 28 to 30, which leave the scratch of [`check`] zero.
 //!
 //! ```
-//! use phastr::{Groups, Settings, lent};
+//! use phastr::{Groups, How, Settings, lent};
 //!
 //! let settings = Settings { slots: 7, log2_slice_len: 3, log2_layouts: 0, seed_bits: 4, buckets: 3 };
 //! let groups = Groups::new(3, vec![1 << 62, (1 << 62) + 3, 1 << 63])?;
@@ -15,7 +15,7 @@
 //! let input = lent::Input {
 //!     settings,
 //!     weights: [2048, 0, 0, 0, 0, 0, 0],
-//!     bump: true,
+//!     how: How::default(),
 //!     hashes: groups.hashes(),
 //!     begins: groups.begins(),
 //!     table: &table,
@@ -37,7 +37,7 @@
 //! # Ok::<(), phastr::Error>(())
 //! ```
 
-use crate::{BUMPED, Counts, Error, Settings, raw};
+use crate::{BUMPED, Counts, Error, How, Settings, raw};
 
 /// What a sweep reads.
 #[derive(Clone, Copy, Debug)]
@@ -47,8 +47,8 @@ pub struct Input<'a> {
     /// The weights of buckets of one to seven keys, each within ±2^32
     /// ([`default_weights`](crate::default_weights) has PHastR's).
     pub weights: [i64; 7],
-    /// Whether a bucket that no seed fits is bumped. If not, it ends the sweep with 14.
-    pub bump: bool,
+    /// How to sweep: whether buckets may be bumped, and in how many chunks.
+    pub how: How,
     /// The hashes, bucket after bucket ([`Groups`](crate::Groups) brings them into that order).
     pub hashes: &'a [u64],
     /// Where each bucket begins among the hashes, and at last how many there are: B + 1 numbers.
@@ -108,7 +108,7 @@ pub fn sizes(settings: &Settings, largest: u64) -> Result<Sizes, Error> {
     answer(number, Sizes { work, table, bitmap })
 }
 
-/// Sweeps a level. Refused: 1 to 14, the first that applies.
+/// Sweeps a level. Refused: 1 to 8, 20, 9 to 14, the first that applies in this order.
 pub fn sweep(input: &Input, output: Output) -> Result<Counts, Error> {
     let (mut counts, mut bucket) = ([0; 3], 0);
     match raw::sweep(input, output, &mut counts, &mut bucket) {

@@ -2,7 +2,7 @@
 
 use crate::lent::{self, Finished, Input, Output};
 use crate::table::HOUSE_ENTRIES;
-use crate::{BUMPED, Counts, Error, Groups, Settings, house_table, log_table};
+use crate::{BUMPED, Counts, Error, Groups, How, Settings, house_table, log_table};
 
 /// The keys of the largest bucket that a sweep takes.
 const LARGEST_BUCKET: u64 = 4096;
@@ -26,20 +26,20 @@ impl PartialEq for Level {
 impl Eq for Level {}
 
 impl Level {
-    /// Sweeps grouped hashes. Refused: 1 to 11, and 14 where bumping is forbidden.
+    /// Sweeps grouped hashes. Refused: 1 to 8, 20, 9 to 11, and 14 where bumping is forbidden.
     ///
     /// ```
-    /// use phastr::{Groups, Level, Settings, default_weights};
+    /// use phastr::{Groups, How, Level, Settings, default_weights};
     ///
     /// let groups = Groups::new(5, (0..20).map(|i| i << 59).collect())?;
-    /// let level = Level::sweep(Settings::new(24, 5), default_weights(8), true, &groups)?;
+    /// let level = Level::sweep(Settings::new(24, 5), default_weights(8), How::default(), &groups)?;
     /// assert_eq!(level.seeds().len(), 5);
     /// # Ok::<(), phastr::Error>(())
     /// ```
     pub fn sweep(
         settings: Settings,
         weights: [i64; 7],
-        bump: bool,
+        how: How,
         groups: &Groups,
     ) -> Result<Level, Error> {
         // A larger bucket is the sweep's to refuse, once it has come to check 10.
@@ -53,7 +53,7 @@ impl Level {
         let mut bitmap = vec![0; sizes.bitmap];
         let mut work = vec![0; sizes.work];
         let (hashes, begins) = (groups.hashes(), groups.begins());
-        let input = Input { settings, weights, bump, hashes, begins, table: &table };
+        let input = Input { settings, weights, how, hashes, begins, table: &table };
         let output = Output { seeds: &mut seeds, bitmap: &mut bitmap, work: &mut work };
         let counts = lent::sweep(&input, output)?;
         Ok(Level { settings, seeds, bitmap, counts: Some(counts) })

@@ -44,7 +44,7 @@ pub use builder::Builder;
 pub use error::Error;
 pub use groups::Groups;
 pub use level::{Holes, Level, check_level};
-pub use settings::{Settings, default_weights};
+pub use settings::{How, Settings, default_weights};
 pub use table::{HOUSE_ENTRIES, LOG_ENTRIES, house_table, log_table};
 
 /// What a slot is where a key's bucket was bumped, in the calls that fill a slice of slots.

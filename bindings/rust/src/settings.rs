@@ -38,6 +38,22 @@ impl Settings {
     }
 }
 
+/// How to sweep.
+#[derive(Clone, Copy, Debug, PartialEq, Eq, Hash)]
+pub struct How {
+    /// Whether a bucket that no seed fits is bumped. If not, it ends the sweep with 14.
+    pub bump: bool,
+    /// Into how many chunks the buckets may be split, at least one; what is too many is cut.
+    pub chunks: u64,
+}
+
+impl Default for How {
+    /// With bumping, in one chunk.
+    fn default() -> How {
+        How { bump: true, chunks: 1 }
+    }
+}
+
 /// The bucket, of so many, that a hash falls into. It rises with the hash.
 pub(crate) fn bucket_of(buckets: u64, hash: u64) -> u64 {
     ((hash as u128 * buckets as u128) >> 64) as u64

@@ -4,7 +4,7 @@ mod common;
 
 use common::Random;
 use phastr::lent;
-use phastr::{BUMPED, Builder, Error, Groups, Level, Settings, default_weights};
+use phastr::{BUMPED, Builder, Error, Groups, How, Level, Settings, default_weights};
 
 /// Settings that pass, of three buckets.
 const SOUND: Settings =
@@ -184,6 +184,20 @@ fn levels() {
     }
 }
 
+/// So many keys make two chunks at the defaults.
+#[test]
+fn levels_in_chunks() {
+    let keys = hashes(150_000);
+    let swept = |chunks| Builder::new().chunks(chunks).sweep(keys.clone()).unwrap();
+    let (one, two) = (swept(1), swept(2));
+    hold_together(&two, &keys);
+    assert!(one.seeds() != two.seeds());
+    // The first chunk begins as the level does, until its window would look past its end.
+    let end = one.settings().buckets as usize / 2 - 242 - 256;
+    assert!(one.seeds()[..end] == two.seeds()[..end]);
+    assert!(two == swept(u64::MAX));
+}
+
 /// Slices of 2,048 to 65,536 slots, which want a longer table than the house table. No table is given.
 #[test]
 fn long_slices() {
@@ -214,6 +228,8 @@ fn builders_refuse() {
     assert_eq!(b().buckets(24).sweep(keys()), Err(Error::Buckets));
     assert_eq!(b().buckets(1).slots(1 << 27).sweep(keys()), Err(Error::SlicesPerBucket));
     assert_eq!(b().weights([1 << 33; 7]).sweep(keys()), Err(Error::Weights));
+    assert_eq!(b().chunks(0).sweep(keys()), Err(Error::Chunks));
+    assert_eq!(b().chunks(u64::MAX).sweep(keys()), b().sweep(keys()));
     assert_eq!(b().buckets(1).sweep(hashes(4097)), Err(Error::LargeBucket));
     assert_eq!(b().bucket_size(0.5).sweep(keys()), Err(Error::BucketSize));
     assert_eq!(b().sweep(vec![0; 67_108_865]), Err(Error::Keys));
@@ -225,7 +241,7 @@ fn builders_refuse() {
 fn levels_of_parts_are_checked() {
     let sweep = |hashes: &[u64], begins: &[u32]| {
         let groups = Groups::from_parts(hashes.to_vec(), begins.to_vec());
-        Level::sweep(SOUND, default_weights(4), true, &groups)
+        Level::sweep(SOUND, default_weights(4), How::default(), &groups)
     };
     assert_eq!(sweep(&[0, 1], &[0, 2]), Err(Error::Begins));
     assert_eq!(sweep(&[0, 1], &[0, 2, 1, 2]), Err(Error::Begins));
@@ -233,8 +249,8 @@ fn levels_of_parts_are_checked() {
     assert!(sweep(&[0, u64::MAX], &[0, 1, 1, 2]).is_ok());
     // The order of the numbers is the sweep's: 8 comes before 10.
     let large = Groups::new(3, vec![0; 4097]).unwrap();
-    assert_eq!(Level::sweep(SOUND, [i64::MAX; 7], true, &large), Err(Error::Weights));
-    assert_eq!(Level::sweep(SOUND, [0; 7], true, &large), Err(Error::LargeBucket));
+    assert_eq!(Level::sweep(SOUND, [i64::MAX; 7], How::default(), &large), Err(Error::Weights));
+    assert_eq!(Level::sweep(SOUND, [0; 7], How::default(), &large), Err(Error::LargeBucket));
 }
 
 #[test]

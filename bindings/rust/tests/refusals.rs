@@ -3,8 +3,8 @@
 
 mod common;
 
-use common::{Case, WORD, case, listing, settings};
-use phastr::{Error, Settings};
+use common::{Case, FORBIDDEN, WORD, case, listing, settings};
+use phastr::{Error, How, Settings};
 
 /// The listing's keys under other settings.
 fn under(log2_slice_len: u32, log2_layouts: u32, seed_bits: u32) -> Case {
@@ -96,6 +96,17 @@ fn n8_weights() {
         for weight in [1 << 32, -(1 << 32)] {
             weighed(weight).passes();
         }
+    }
+}
+
+#[test]
+fn n20_chunks() {
+    let within = |chunks| Case { how: How { bump: true, chunks }, ..listing() };
+    within(0).refused(20);
+    let one = within(1).passes();
+    for chunks in [2, 64, u64::MAX] {
+        let more = within(chunks).passes();
+        assert_eq!((more.answer, more.seeds), (one.answer, one.seeds.clone()));
     }
 }
 
@@ -197,7 +208,7 @@ fn n14_no_seed() {
     // Both the first and the last bucket have a key twice; at equal weights the first is taken first.
     let twice: [&[u64]; 3] = [&[5, 5], &[1 << 63], &[u64::MAX, u64::MAX]];
     let one = case(settings(7, 4, 3), &twice);
-    let stopped = Case { bump: false, work: one.work + 5, ..one.clone() };
+    let stopped = Case { how: FORBIDDEN, work: one.work + 5, ..one.clone() };
     let swept = stopped.sweep();
     assert_eq!(swept.answer, Err(Error::NoSeed { bucket: 0 }));
     assert_eq!(swept.seeds, [0; 3]);
@@ -207,7 +218,7 @@ fn n14_no_seed() {
     let bumped = one.passes();
     assert_eq!(bumped.answer.unwrap().bumped, 4);
     let apart: [&[u64]; 3] = [&[5, 6], &[1 << 63], &[u64::MAX]];
-    Case { bump: false, ..case(settings(7, 4, 3), &apart) }.passes();
+    Case { how: FORBIDDEN, ..case(settings(7, 4, 3), &apart) }.passes();
 }
 
 #[test]
@@ -220,8 +231,9 @@ fn nothing_lent() {
 fn the_first_number_counts() {
     // Everything is wrong, and is put right one thing after the other.
     let mut s = Settings { slots: 0, log2_slice_len: 2, log2_layouts: 9, seed_bits: 1, buckets: 2 };
-    let wrong =
-        |settings| Case { weights: [i64::MAX; 7], begins: vec![], ..listing().with(settings) };
+    let how = How { bump: true, chunks: 0 };
+    let weights = [i64::MAX; 7];
+    let wrong = |settings| Case { weights, how, begins: vec![], ..listing().with(settings) };
     wrong(s).refused(1);
     s.seed_bits = 4;
     wrong(s).refused(2);
@@ -239,6 +251,8 @@ fn the_first_number_counts() {
     let mut case = Case { hashes: vec![u64::MAX; 4097], seeds: 0, table: vec![], ..wrong(s) };
     case.refused(8);
     case.weights = [0; 7];
+    case.refused(20);
+    case.how.chunks = 1;
     case.refused(9);
     case.begins = vec![0, 4097, 4097, 4097];
     case.refused(10);

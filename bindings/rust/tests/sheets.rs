@@ -2,8 +2,8 @@
 
 mod common;
 
-use common::{Case, case, listing, settings};
-use phastr::{Builder, Counts, Error, Groups, Level, Settings, lent};
+use common::{Case, FORBIDDEN, case, listing, settings};
+use phastr::{Builder, Counts, Error, Groups, How, Level, Settings, lent};
 
 /// Holds a sweep to its seeds, marked slots (bits of one word) and counts, and its holes to the rest.
 #[track_caller]
@@ -66,7 +66,7 @@ fn p5_equal_hashes() {
     let p5 = case(settings(7, 4, 1), &[&[0, 0]]);
     comes_to(&p5, &[0], 0, [0, 2, 1]);
     assert_eq!(slots(&p5, &[0, 1, u64::MAX]), [None; 3]);
-    let forbidden = Case { bump: false, ..p5 }.sweep();
+    let forbidden = Case { how: FORBIDDEN, ..p5 }.sweep();
     assert_eq!(forbidden.answer, Err(Error::NoSeed { bucket: 0 }));
 }
 
@@ -106,7 +106,7 @@ fn the_listing_as_an_owned_level() {
     let Case { settings, weights, hashes, begins, .. } = listing();
     let groups = Groups::new(3, vec![hashes[2], hashes[1], hashes[0]]).unwrap();
     assert_eq!((groups.hashes(), groups.begins()), (&hashes[..], &begins[..]));
-    let level = Level::sweep(settings, weights, true, &groups).unwrap();
+    let level = Level::sweep(settings, weights, How::default(), &groups).unwrap();
     assert_eq!(level.seeds(), [3, 4, 0]);
     assert_eq!(level.bitmap(), [0b10110]);
     assert_eq!(level.counts(), Some(Counts { placed: 3, bumped: 0, zero: 1 }));

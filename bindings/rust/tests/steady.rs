@@ -4,7 +4,7 @@
 mod common;
 
 use common::{Case, Random, Swept, case, settings};
-use phastr::{Builder, Groups, Level, Settings, default_weights, lent};
+use phastr::{Builder, Groups, How, Level, Settings, default_weights, lent};
 
 /// What stands in bucket b has no say about the seeds of buckets below b - NEAR.
 const NEAR: usize = 255;
@@ -32,8 +32,8 @@ impl Family {
     fn with(&self, keys: Vec<Vec<u64>>, spare: u64) -> Family {
         let lists: Vec<&[u64]> = keys.iter().map(Vec::as_slice).collect();
         let made = case(self.case.settings, &lists);
-        let (weights, bump) = (self.case.weights, self.case.bump);
-        Family { case: Case { weights, bump, work: made.work + spare as usize, ..made }, keys }
+        let (weights, how) = (self.case.weights, self.case.how);
+        Family { case: Case { weights, how, work: made.work + spare as usize, ..made }, keys }
     }
 
     /// Each bucket's keys in another order.
@@ -130,7 +130,7 @@ fn early_rows_at_the_defaults() {
     let made = Builder::new().settings(hashes.len() as u64).unwrap();
     let sweep = |hashes: Vec<u64>| {
         let groups = Groups::new(made.buckets, hashes).unwrap();
-        Level::sweep(made, default_weights(8), true, &groups).unwrap()
+        Level::sweep(made, default_weights(8), How::default(), &groups).unwrap()
     };
     let one = sweep(hashes.clone());
     let b = made.buckets / 2;
@@ -160,7 +160,7 @@ fn order_inside_buckets_is_free() {
     let (mut reordered, mut stopped) = (0, 0);
     for _ in 0..400 {
         let mut family = family(&mut random);
-        family.case.bump = random.from_to(0, 1) == 0;
+        family.case.how.bump = random.from_to(0, 1) == 0;
         let shuffled = family.shuffled(&mut random);
         let (one, other) = (family.case.sweep(), shuffled.case.sweep());
         assert_eq!(one.answer, other.answer);

@@ -2,7 +2,7 @@
 //! checked: a differential run that needs no Rust at hand. oracle/README.md has the file's form.
 
 use phastr::lent::{self, Finished, Input, Output};
-use phastr::{Error, Settings};
+use phastr::{Error, How, Settings};
 
 /// House numbers: groups of seven bits, low group first, top bit set while more follow.
 struct Numbers<'a>(std::slice::Iter<'a, u8>);
@@ -61,8 +61,8 @@ fn hold(numbers: &mut Numbers, table: &[u32]) {
     let sizes = lent::sizes(&settings, largest).expect("settings that are taken");
     let (mut seeds, mut bitmap) = (vec![7; buckets as usize], vec![7; sizes.bitmap]);
     let mut work = vec![7; sizes.work];
-    let bump = bump == 1;
-    let input = Input { settings, weights, bump, hashes: &hashes, begins: &begins, table };
+    let how = How { bump: bump == 1, chunks: 1 };
+    let input = Input { settings, weights, how, hashes: &hashes, begins: &begins, table };
     let output = Output { seeds: &mut seeds, bitmap: &mut bitmap, work: &mut work };
     let answer = lent::sweep(&input, output);
     if numbers.next() == 14 {

@@ -1,4 +1,4 @@
--- Layout after layout: what holds of all keys and free words holds of a layout's part, and the loops of `best_all` and `best_many`. Assumes nothing.
+-- Layout after layout: what holds of all keys and free words holds of a layout's part, and the loop of `best_many`. Assumes nothing.
 use mathlib.Core.Path.{_≡_, refl, sym, ap, _∙_}
 use mathlib.Core.Logic.{_≢_}
 use mathlib.Core.Bool.{not}
@@ -13,7 +13,7 @@ use lib.ListN.{length, getD, take, drop, length-take, length-drop}
 use lib.Seq.{ext-getD}
 use Rattle.rings.specs.declared.Ring.{Ring}
 use Rattle.rings.specs.Keys.{costAt}
-use Rattle.rings.specs.Parts.{part, part-at, length-part, part-range}
+use Rattle.rings.specs.Parts.{part, part-at, length-part}
 use Rattle.best.specs.declared.Best.{Best}
 use Rattle.best.specs.Best.{nothing, bestFrom, bestOf}
 use Rattle.best.specs.Prices.{Prices, isFree, costIn, freeIn, bestFree, Ended, EndedAll}
@@ -87,7 +87,7 @@ module _ (g : Ring) (table keys : List ℕ) (size : ℕ) (free : List ℕ) (coun
   free-none h w p e r j lr lj =
       best-none (costIn g table keys size) (freeIn free count) (g .n) layouts h r j lr lj (cost-lt g table (part keys (r * size) size) j w (prices-layout size layouts r p e lr .size))
 
--- ---- the loops
+-- ---- the loop
 
 pub record Trying (g : Ring) (table keys : List ℕ) (size : ℕ) (free : List ℕ) (count layouts r : ℕ) (b : Best) : Type 0 where
   pub le : r ≤ layouts
@@ -105,7 +105,3 @@ module _ {g : Ring} {table keys : List ℕ} {size : ℕ} {free : List ℕ} {coun
 
   pub trying-end : layouts ≤ r → b ≡ bestFree g table keys size free count layouts
   trying-end h = let e : r ≡ layouts = omega (arith, t .le) in rw e at (t .is)
-
--- a part `&keys[a..a + size]` of the code
-pub layout-range : (l : List ℕ) (size r : ℕ) {a : ℕ} → a ≡ r * size → take (a + size - a) (drop a l) ≡ part l (r * size) size
-layout-range l size r {a} e = part-range l a size ∙ ap (λ (x : ℕ). part l x size) e

@@ -11,3 +11,6 @@ pub mod Layouts
 pub mod Filled
 pub mod Examples
 pub mod Walk
+pub mod Flat
+pub mod Listed
+pub mod Looking

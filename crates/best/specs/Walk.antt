@@ -30,7 +30,7 @@ pub record Walk (cost : ℕ → ℕ) (test : ℕ → Bool) (free : List ℕ) (r 
   pub same : (i : ℕ) → i < 64 → trailingZeros 64 left ≤ i → bit left i ≡ slot free (64 * w + i)
   pub is : best ≡ bestFrom cost test r before (64 * w) (trailingZeros 64 left)
 
-slot-of : (free : List ℕ) (w i : ℕ) → i < 64 → slot free (64 * w + i) ≡ bit (getD free w 0) i
+pub slot-of : (free : List ℕ) (w i : ℕ) → i < 64 → slot free (64 * w + i) ≡ bit (getD free w 0) i
 slot-of free w i h = let e : 64 * w + i ≡ w * 64 + i = omega arith in ap (slot free) e ∙ slot-at free w i h
 
 pub walk-start : (cost : ℕ → ℕ) (test : ℕ → Bool) (free : List ℕ) (r w : ℕ) (before : Best) → OnlyFree test free → getD free w 0 < 2 ^ 64
@@ -44,6 +44,26 @@ walk-start cost test free r w before only f = record {
       only i (ap (slot free) (sym q) ∙ slot-of free w (i - 64 * w) (omega (arith, trailing-le 64 (getD free w 0))) ∙ tz-below 64 (getD free w 0) (i - 64 * w) (omega arith))));
 }
 
+-- without its lowest bit, a word's lowest bit is a higher one
+pub lowest-up : (w : ℕ) → w < 2 ^ 64 → w ≢ 0 → trailingZeros 64 w < trailingZeros 64 (bitAnd w (w - 1))
+lowest-up w f n =
+    ⊎-elim
+    (λ h. h)
+    (λ (h : trailingZeros 64 (bitAnd w (w - 1)) ≤ trailingZeros 64 w).
+    let set = tz-bit 64 (bitAnd w (w - 1)) (omega (arith, tz-lt 64 w f n)) in
+    ⊎-elim
+    (λ (l : trailingZeros 64 (bitAnd w (w - 1)) < trailingZeros 64 w).
+    absurd (omega (
+      arith,
+      clear-other 64 w (trailingZeros 64 (bitAnd w (w - 1))) f n (omega arith),
+      tz-below 64 w (trailingZeros 64 (bitAnd w (w - 1))) l,
+    )))
+    (λ (l : trailingZeros 64 w ≤ trailingZeros 64 (bitAnd w (w - 1))).
+    let e : trailingZeros 64 (bitAnd w (w - 1)) ≡ trailingZeros 64 w = omega arith in
+    absurd (omega (arith, ap (bit (bitAnd w (w - 1))) e, clear-same 64 w f n)))
+    (lt-or-ge (trailingZeros 64 (bitAnd w (w - 1))) (trailingZeros 64 w)))
+    (lt-or-ge (trailingZeros 64 w) (trailingZeros 64 (bitAnd w (w - 1))))
+
 module _ {cost : ℕ → ℕ} {test : ℕ → Bool} {free : List ℕ} {r w : ℕ} {before : Best} {left : ℕ} {best : Best} (a : Walk cost test free r w before left best) where
   module _ (n : left ≢ 0) where
     pub walk-lt : trailingZeros 64 left < 64
@@ -53,25 +73,8 @@ module _ {cost : ℕ → ℕ} {test : ℕ → Bool} {free : List ℕ} {r w : ℕ
     pub walk-free : slot free (64 * w + trailingZeros 64 left) ≡ 1
     walk-free = sym (a .same (trailingZeros 64 left) walk-lt (omega arith)) ∙ tz-bit 64 left walk-lt
 
-    -- the next lowest bit is a higher one
     walk-up : trailingZeros 64 left < trailingZeros 64 (bitAnd left (left - 1))
-    walk-up =
-        ⊎-elim
-        (λ h. h)
-        (λ (h : trailingZeros 64 (bitAnd left (left - 1)) ≤ trailingZeros 64 left).
-        let set = tz-bit 64 (bitAnd left (left - 1)) (omega (arith, walk-lt)) in
-        ⊎-elim
-        (λ (l : trailingZeros 64 (bitAnd left (left - 1)) < trailingZeros 64 left).
-        absurd (omega (
-          arith,
-          clear-other 64 left (trailingZeros 64 (bitAnd left (left - 1))) (a .fits) n (omega arith),
-          tz-below 64 left (trailingZeros 64 (bitAnd left (left - 1))) l,
-        )))
-        (λ (l : trailingZeros 64 left ≤ trailingZeros 64 (bitAnd left (left - 1))).
-        let e : trailingZeros 64 (bitAnd left (left - 1)) ≡ trailingZeros 64 left = omega arith in
-        absurd (omega (arith, ap (bit (bitAnd left (left - 1))) e, clear-same 64 left (a .fits) n)))
-        (lt-or-ge (trailingZeros 64 (bitAnd left (left - 1))) (trailingZeros 64 left)))
-        (lt-or-ge (trailingZeros 64 left) (trailingZeros 64 (bitAnd left (left - 1))))
+    walk-up = lowest-up left (a .fits) n
 
     -- bits above the lowest one
     above : (i : ℕ) → i < 64 → trailingZeros 64 left < i → bit (bitAnd left (left - 1)) i ≡ slot free (64 * w + i)

@@ -35,14 +35,10 @@ pub fn cost(g: Ring, table: &[u32], keys: &[u64], j: usize) -> u64
     sum
 }
 
-// Rotation j of layout r where it costs less than the best so far, which stays where it does not.
-pub fn better_of(g: Ring, table: &[u32], keys: &[u64], r: usize, j: usize, best: Best) -> Best
-    requires { ⌜ Shape g ⌝ }
-    requires { ⌜ Prices g (now table) (now keys) ⌝ }
-    requires { ⌜ j < 65536 ⌝ }
-    ensures { λ b. ⌜ b ≡ better (costAt g (now (table .entry)) (now (keys .entry)) j) r j best ⌝ }
+// Rotation j of layout r at cost c where that is less than the best so far, which stays where it is not.
+pub fn cheaper(c: u64, r: usize, j: usize, best: Best) -> Best
+    ensures { λ b. ⌜ b ≡ better c r j best ⌝ }
 {
-    let c = cost(g, table, keys, j);
     if c < best.cost {
         return Best {
             cost: c,
@@ -51,4 +47,15 @@ pub fn better_of(g: Ring, table: &[u32], keys: &[u64], r: usize, j: usize, best:
         };
     }
     best
+}
+
+// The same with the cost that the keys have there.
+pub fn better_of(g: Ring, table: &[u32], keys: &[u64], r: usize, j: usize, best: Best) -> Best
+    requires { ⌜ Shape g ⌝ }
+    requires { ⌜ Prices g (now table) (now keys) ⌝ }
+    requires { ⌜ j < 65536 ⌝ }
+    ensures { λ b. ⌜ b ≡ better (costAt g (now (table .entry)) (now (keys .entry)) j) r j best ⌝ }
+{
+    let c = cost(g, table, keys, j);
+    cheaper(c, r, j, best)
 }

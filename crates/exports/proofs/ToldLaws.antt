@@ -1,7 +1,6 @@
 -- The number told is that of the first line that applies, and for a sweep that passed them all 14 or 0. So 0 tells that the call is done, and nothing else
 -- does. Each holds by the cases of the number. And a level that a sweep tells 0 of is one that the check tells 0 of. Assumes nothing.
 use mathlib.Core.Path.{_≡_, refl, ap}
-use mathlib.Core.Bool.{Bool}
 use mathlib.Core.List.{List}
 use mathlib.Core.Option.{Option, none, some}
 use Prim.Native.Nat.{ℕ, zero, suc}
@@ -9,6 +8,7 @@ use native.Mathlib.Omega.{arith}
 use lib.Ieee.{Float}
 use lib.ListN.{length}
 use Rattle.rules.specs.declared.Settings.{Settings}
+use Rattle.rules.specs.declared.How.{How}
 use Rattle.rules.specs.declared.Counts.{Counts}
 use Rattle.rules.specs.Order.{Input, Tie}
 use Rattle.rules.specs.Sweep.{finalSeeds}
@@ -42,16 +42,16 @@ told-ran zero none counts e = (refl, refl)
 told-ran zero (some b) counts e = absurd (omega arith)
 told-ran (suc n) stop counts e = absurd (omega arith)
 
-pub sweep-told : (tie : Tie) (bump : Bool) (i : Input) (lent : Lent)
-    → numberTold (sweepAnswer tie bump i lent) ≡ 0 → (sweepNumber i lent ≡ 0) × (stopsAt tie bump i ≡ none)
+pub sweep-told : (tie : Tie) (how : How) (i : Input) (lent : Lent)
+    → numberTold (sweepAnswer tie how i lent) ≡ 0 → (sweepNumber how i lent ≡ 0) × (stopsAt tie how i ≡ none)
 unfolding sweepAnswer
-sweep-told tie bump i lent e = told-ran (sweepNumber i lent) (stopsAt tie bump i) (countsOf i (finalSeeds i (sweepTurns tie i))) e
+sweep-told tie how i lent e = told-ran (sweepNumber how i lent) (stopsAt tie how i) (countsOf i (finalSeeds i (sweepTurns tie (how .chunks) i))) e
 
 -- what phastr_sweep has finished, phastr_check_level accepts
-pub swept-checked : (tie : Tie) (bump : Bool) (i : Input) (lent : Lent) → Words (i .hashes) → numberTold (sweepAnswer tie bump i lent) ≡ 0
+pub swept-checked : (tie : Tie) (how : How) (i : Input) (lent : Lent) → Words (i .hashes) → numberTold (sweepAnswer tie how i lent) ≡ 0
     → (seeds bitmap scratch : List ℕ) → length scratch ≡ bitmapWords (i .settings .m)
-    → numberTold (checkAnswer (levelOf (i .settings) (i .hashes) (i .begins)) (sweepSeeds tie bump i lent seeds) (sweepBitmap tie bump i lent bitmap) scratch) ≡ 0
+    → numberTold (checkAnswer (levelOf (i .settings) (i .hashes) (i .begins)) (sweepSeeds tie how i lent seeds) (sweepBitmap tie how i lent bitmap) scratch) ≡ 0
 unfolding numberTold
-swept-checked tie bump i lent w e seeds bitmap scratch h =
-    let r = sweep-told tie bump i lent e in
-    ap numberTold (accepts-sweep tie bump i lent (r .0) (r .1) w seeds bitmap scratch h)
+swept-checked tie how i lent w e seeds bitmap scratch h =
+    let r = sweep-told tie how i lent e in
+    ap numberTold (accepts-sweep tie how i lent (r .0) (r .1) w seeds bitmap scratch h)

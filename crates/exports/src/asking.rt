@@ -10,6 +10,8 @@ ghost use Rattle.exports.specs.Positions.{slotOf, positionsNumber, posit
 use geometry::settings::number_to_6;
 use geometry::shape::Geometry;
 use geometry::shape::geometry_of;
+use geometry::usual::literal;
+use geometry::usual::usual;
 use lookup::lookup;
 use lookup::lookup_in;
 use rules::Looked;
@@ -64,7 +66,7 @@ fn slot_in(g: Geometry, seeds: &[u16], hash: u64) -> u64
 }
 
 // The slots of the hashes, each into its place.
-fn fill_slots(g: Geometry, seeds: &[u16], hashes: &[u64], slots: &mut [u64])
+fn fill_in(g: Geometry, seeds: &[u16], hashes: &[u64], slots: &mut [u64])
     requires { ⌜ Made g ⌝ }
     requires { ⌜ length (now seeds) ≡ g .settings .buckets ⌝ }
     requires { ⌜ length (now slots) ≡ length (now hashes) ⌝ }
@@ -75,6 +77,20 @@ fn fill_slots(g: Geometry, seeds: &[u16], hashes: &[u64], slots: &mut [u64])
         slots[i] = slot_in(g, seeds, hashes[i]);
         i += 1;
     }
+}
+
+// The same, with the numbers of the default shape as literals where the geometry has it.
+fn fill_slots(g: Geometry, seeds: &[u16], hashes: &[u64], slots: &mut [u64])
+    requires { ⌜ Made g ⌝ }
+    requires { ⌜ length (now seeds) ≡ g .settings .buckets ⌝ }
+    requires { ⌜ length (now slots) ≡ length (now hashes) ⌝ }
+    ensures { λ _. ⌜ now (slots .exit) ≡ map (slotOf (g .settings) (now (seeds .entry))) (now (hashes .entry)) ⌝ }
+{
+    if usual(g) {
+        fill_in(literal(g), seeds, hashes, slots);
+        return;
+    }
+    fill_in(g, seeds, hashes, slots);
 }
 
 // Looks hashes up, each into its place of slots. 13 also where there are not as many slots as hashes.

@@ -3,9 +3,10 @@ ghost use mathlib.Core.Path.{_≡_};
 ghost use Rattle.rules.specs.Numbers.{lentOf};
 ghost use Rattle.rules.specs.Order.{byLowBits, inputOf};
 ghost use Rattle.rules.specs.Answers.{saidOutcome, sweepAnswer, sweepSeeds, sweepBitmap, sweepWork, holesAnswer, holesOut};
-ghost use Rattle.exports.specs.Level.{settingsOf};
+ghost use Rattle.exports.specs.Level.{settingsOf, howOf};
 ghost use Rattle.exports.specs.Told.{numberTold, valuesTold, valueTold, bucketTold};
 use holes::holes;
+use rules::How;
 use rules::Listed;
 use rules::Named;
 use rules::Outcome;
@@ -35,7 +36,7 @@ fn tell(outcome: Outcome, counts: &mut [u64; 3], bucket: &mut u64) -> u64
     }
 }
 
-// Sweeps a level. 0: counts has keys placed, keys bumped and buckets of seed 0; 14: bucket has the one that got 0.
+// Sweeps a level in at most so many chunks. 0: counts has keys placed, keys bumped and buckets of seed 0; 14: bucket has the one that got 0.
 #[no_mangle]
 pub extern "C" fn phastr_sweep(
     m: u64,
@@ -45,6 +46,7 @@ pub extern "C" fn phastr_sweep(
     buckets: u64,
     weights: &[i64; 7],
     bump: bool,
+    chunks: u64,
     hashes: &[u64],
     begins: &[u32],
     table: &[u32],
@@ -54,22 +56,22 @@ pub extern "C" fn phastr_sweep(
     counts: &mut [u64; 3],
     bucket: &mut u64,
 ) -> u64
-    ensures answer { λ r. ⌜ r ≡ numberTold (sweepAnswer byLowBits bump
+    ensures answer { λ r. ⌜ r ≡ numberTold (sweepAnswer byLowBits (howOf bump chunks)
         (inputOf (settingsOf m «log2_slice_len» ll sb buckets) (now (weights .entry)) (now (hashes .entry)) (now (begins .entry)) (now (table .entry)))
         (lentOf (now (seeds .entry)) (now (bitmap .entry)) (now (work .entry)))) ⌝ }
-    ensures given { λ _. ⌜ now (seeds .exit) ≡ sweepSeeds byLowBits bump
+    ensures given { λ _. ⌜ now (seeds .exit) ≡ sweepSeeds byLowBits (howOf bump chunks)
         (inputOf (settingsOf m «log2_slice_len» ll sb buckets) (now (weights .entry)) (now (hashes .entry)) (now (begins .entry)) (now (table .entry)))
         (lentOf (now (seeds .entry)) (now (bitmap .entry)) (now (work .entry))) (now (seeds .entry)) ⌝ }
-    ensures marked { λ _. ⌜ now (bitmap .exit) ≡ sweepBitmap byLowBits bump
+    ensures marked { λ _. ⌜ now (bitmap .exit) ≡ sweepBitmap byLowBits (howOf bump chunks)
         (inputOf (settingsOf m «log2_slice_len» ll sb buckets) (now (weights .entry)) (now (hashes .entry)) (now (begins .entry)) (now (table .entry)))
         (lentOf (now (seeds .entry)) (now (bitmap .entry)) (now (work .entry))) (now (bitmap .entry)) ⌝ }
-    ensures worked { λ _. ⌜ now (work .exit) ≡ sweepWork
+    ensures worked { λ _. ⌜ now (work .exit) ≡ sweepWork (howOf bump chunks)
         (inputOf (settingsOf m «log2_slice_len» ll sb buckets) (now (weights .entry)) (now (hashes .entry)) (now (begins .entry)) (now (table .entry)))
         (lentOf (now (seeds .entry)) (now (bitmap .entry)) (now (work .entry))) (now (work .entry)) ⌝ }
-    ensures counted { λ _. ⌜ now (counts .exit) ≡ valuesTold (sweepAnswer byLowBits bump
+    ensures counted { λ _. ⌜ now (counts .exit) ≡ valuesTold (sweepAnswer byLowBits (howOf bump chunks)
         (inputOf (settingsOf m «log2_slice_len» ll sb buckets) (now (weights .entry)) (now (hashes .entry)) (now (begins .entry)) (now (table .entry)))
         (lentOf (now (seeds .entry)) (now (bitmap .entry)) (now (work .entry)))) (now (counts .entry)) ⌝ }
-    ensures named { λ _. ⌜ now (bucket .exit) ≡ bucketTold (sweepAnswer byLowBits bump
+    ensures named { λ _. ⌜ now (bucket .exit) ≡ bucketTold (sweepAnswer byLowBits (howOf bump chunks)
         (inputOf (settingsOf m «log2_slice_len» ll sb buckets) (now (weights .entry)) (now (hashes .entry)) (now (begins .entry)) (now (table .entry)))
         (lentOf (now (seeds .entry)) (now (bitmap .entry)) (now (work .entry)))) (now (bucket .entry)) ⌝ }
 {
@@ -80,17 +82,11 @@ pub extern "C" fn phastr_sweep(
         sb: sb,
         buckets: buckets,
     };
-    let record = sweep(
-        s,
-        *weights,
-        bump,
-        hashes,
-        begins,
-        table,
-        seeds,
-        bitmap,
-        work,
-    );
+    let how = How {
+        bump: bump,
+        chunks: chunks,
+    };
+    let record = sweep(s, *weights, how, hashes, begins, table, seeds, bitmap, work);
     let outcome = record.outcome;
     tell(outcome, counts, bucket)
 }

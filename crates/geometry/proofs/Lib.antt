@@ -3,3 +3,4 @@ pub mod Sizes
 pub mod Places
 pub mod Halving
 pub mod Sizing
+pub mod UsualLaws

@@ -33,9 +33,13 @@ module _ {all out₀ out rest : List ℕ} {n : ℕ} where
   pub fill-restart : Filling all out₀ out n rest → Filling all out out n rest
   fill-restart f = record { room = omega (arith, f .room, f .same); same = refl; within = f .within; done = f .done; kept = refl }
 
+  -- where nothing is left, all is written
+  pub fill-all : Filling all out₀ out n rest → rest ≡ [] → n ≡ length all
+  fill-all f z = omega (arith, fill-count f, ap length z)
+
   pub fill-end : Filling all out₀ out n rest → rest ≡ [] → out ≡ all ++ drop (length all) out₀
   fill-end f z =
-      let e : n ≡ length all = omega (arith, fill-count f, ap length z) in
+      let e : n ≡ length all = fill-all f z in
       let d : take n out ≡ all = sym (append-nil (take n out)) ∙ ap (λ (l : List ℕ). take n out ++ l) (sym z) ∙ f .done in
       sym (take-append-drop n out) ∙ ap₂ (λ (a b : List ℕ). a ++ b) d (f .kept) ∙ ap (λ (k : ℕ). all ++ drop k out₀) e
 

@@ -2,6 +2,7 @@
 ghost use mathlib.Core.Path.{_≡_};
 ghost use mathlib.Core.List.{_++_};
 ghost use Prim.Native.Nat.{_+_, _*_, _/_, _<_, _≤_};
+ghost use lib.Dec.{leb};
 ghost use lib.ListN.{length, drop};
 ghost use Rattle.rules.specs.Holes.{holesOf};
 ghost use Rattle.rules.specs.Numbers.{bitmapWords};
@@ -35,10 +36,22 @@ fn count_holes(m: usize, bitmap: &[u64]) -> usize
     total
 }
 
-// Writes the holes to the front of out: of each free word the lowest set bit, until none is left.
-fn list_holes(m: usize, bitmap: &[u64], out: &mut [u32])
+// Whether so much room is enough. No level has more holes than slots, so only a smaller room has them counted.
+fn has_room(m: usize, bitmap: &[u64], room: usize) -> bool
+    requires { ⌜ (m ≤ 134217728) × (length (now bitmap) ≡ bitmapWords m) ⌝ }
+    ensures { λ r. ⌜ r ≡ leb (length (holesOf m (now (bitmap .entry)))) room ⌝ }
+{
+    if m <= room {
+        return true;
+    }
+    count_holes(m, bitmap) <= room
+}
+
+// Writes the holes to the front of out, of each free word the lowest set bit until none is left, and answers how many they are.
+fn list_holes(m: usize, bitmap: &[u64], out: &mut [u32]) -> usize
     requires { ⌜ (m ≤ 134217728) × (length (now bitmap) ≡ bitmapWords m) × (length (holesOf m (now bitmap)) ≤ length (now out)) ⌝ }
-    ensures { λ _. ⌜ now (out .exit) ≡ holesOf m (now (bitmap .entry)) ++ drop (length (holesOf m (now (bitmap .entry)))) (now (out .entry)) ⌝ }
+    ensures counted { λ r. ⌜ r ≡ length (holesOf m (now (bitmap .entry))) ⌝ }
+    ensures listed { λ _. ⌜ now (out .exit) ≡ holesOf m (now (bitmap .entry)) ++ drop (length (holesOf m (now (bitmap .entry)))) (now (out .entry)) ⌝ }
 {
     let mut n: usize = 0;
     for w in 0..bitmap.len() {
@@ -49,6 +62,7 @@ fn list_holes(m: usize, bitmap: &[u64], out: &mut [u32])
             free &= free - 1;
         }
     }
+    n
 }
 
 // Puts the holes at the front of out and answers how many there are, or refuses with 5, 13 or 15 and writes nothing.
@@ -66,10 +80,9 @@ pub fn holes(m: u64, bitmap: &[u64], out: &mut [u32]) -> Listed
     if bitmap.len() != (slots + 63) / 64 {
         return Listed::Refused(13);
     }
-    let n = count_holes(slots, bitmap);
-    if n > out.len() {
+    if !has_room(slots, bitmap, out.len()) {
         return Listed::Refused(15);
     }
-    list_holes(slots, bitmap, out);
+    let n = list_holes(slots, bitmap, out);
     Listed::Holes(n as u64)
 }

@@ -17,6 +17,7 @@ use Rattle.rules.specs.declared.SweepRecord.{SweepRecord}
 use Rattle.rules.specs.declared.Listed.{Listed}
 use Rattle.rules.specs.declared.Listed.the-variants as Hole
 use Rattle.rules.specs.Order.{Input, byLowBits}
+use Rattle.rules.specs.Chunks.{inOne}
 use Rattle.rules.specs.Holes.{holesOf}
 use Rattle.rules.specs.Numbers.{Lent, lentOf, firstOf, holesLines, bitmapWords}
 use Rattle.rules.specs.Sweep.{finalSeeds, finalBitmap}
@@ -84,35 +85,35 @@ counts-back c = refl
 -- a sweep that was done, and what it left
 pub record Swept (bump : Bool) (i : Input) (counts : Counts) (seeds bitmap : List ℕ) : Type 0 where
   pub m-low : 1 ≤ i .settings .m
-  pub counts-are : counts ≡ countsOf i (finalSeeds i (sweepTurns byLowBits i))
-  pub seeds-are : seeds ≡ finalSeeds i (sweepTurns byLowBits i)
-  pub bitmap-is : bitmap ≡ finalBitmap i (sweepTurns byLowBits i)
+  pub counts-are : counts ≡ countsOf i (finalSeeds i (sweepTurns byLowBits 1 i))
+  pub seeds-are : seeds ≡ finalSeeds i (sweepTurns byLowBits 1 i)
+  pub bitmap-is : bitmap ≡ finalBitmap i (sweepTurns byLowBits 1 i)
   pub text : sweptText bump i ≡ doneOf i
 
-module _ (bump : Bool) (i : Input) (lent : Lent) (same : lent ≡ lentBy i) (r : SweepRecord) (said : saidSweep r ≡ sweepAnswer byLowBits bump i lent) where
-  said-own : saidSweep r ≡ sweepAnswer byLowBits bump i (lentBy i)
-  said-own = said ∙ ap (sweepAnswer byLowBits bump i) same
+module _ (bump : Bool) (i : Input) (lent : Lent) (same : lent ≡ lentBy i) (r : SweepRecord) (said : saidSweep r ≡ sweepAnswer byLowBits (inOne bump) i lent) where
+  said-own : saidSweep r ≡ sweepAnswer byLowBits (inOne bump) i (lentBy i)
+  said-own = said ∙ ap (sweepAnswer byLowBits (inOne bump) i) same
 
   pub swept-refused : (n : ℕ) (who : Named) → r .outcome ≡ Ended.Refused n who → sweptText bump i ≡ refusedText n (namedBy who)
   unfolding sweptText printed saidSweep saidOutcome
   swept-refused n who e = ap (λ (s : Said). printed s (doneOf i)) (sym said-own ∙ ap saidOutcome e)
 
-  pub swept-done : (counts : Counts) (before before' seeds bitmap : List ℕ) → r .outcome ≡ Ended.Done counts → seeds ≡ sweepSeeds byLowBits bump i lent before → bitmap ≡ sweepBitmap byLowBits bump i lent before'
+  pub swept-done : (counts : Counts) (before before' seeds bitmap : List ℕ) → r .outcome ≡ Ended.Done counts → seeds ≡ sweepSeeds byLowBits (inOne bump) i lent before → bitmap ≡ sweepBitmap byLowBits (inOne bump) i lent before'
       → Swept bump i counts seeds bitmap
   unfolding saidSweep saidOutcome sweepNumber sweptText printed
-  swept-done counts before before' seeds bitmap e f g = go (sweepNumber i lent) refl (stopsAt byLowBits bump i) refl
+  swept-done counts before before' seeds bitmap e f g = go (sweepNumber (inOne bump) i lent) refl (stopsAt byLowBits (inOne bump) i) refl
     where
       is : saidSweep r ≡ Answer (countValues counts)
       is = ap saidOutcome e
 
-      go : (n : ℕ) → sweepNumber i lent ≡ n → (o : Option ℕ) → stopsAt byLowBits bump i ≡ o → Swept bump i counts seeds bitmap
-      go (suc n) k o l = absurd (apart (sym is ∙ said ∙ sweep-refused byLowBits bump i lent before before' [] (λ (z : sweepNumber i lent ≡ 0). absurd (let y : suc n ≡ 0 = sym k ∙ z in omega arith)) .said-is))
-      go zero k (some b) l = absurd (apart (sym is ∙ said ∙ sweep-stopped byLowBits bump i lent before before' [] b k l .said-is))
+      go : (n : ℕ) → sweepNumber (inOne bump) i lent ≡ n → (o : Option ℕ) → stopsAt byLowBits (inOne bump) i ≡ o → Swept bump i counts seeds bitmap
+      go (suc n) k o l = absurd (apart (sym is ∙ said ∙ sweep-refused byLowBits (inOne bump) i lent before before' [] (λ (z : sweepNumber (inOne bump) i lent ≡ 0). absurd (let y : suc n ≡ 0 = sym k ∙ z in omega arith)) .said-is))
+      go zero k (some b) l = absurd (apart (sym is ∙ said ∙ sweep-stopped byLowBits (inOne bump) i lent before before' [] b k l .said-is))
       go zero k none l =
-          let left = sweep-done byLowBits bump i lent before before' [] k l in
+          let left = sweep-done byLowBits (inOne bump) i lent before before' [] k l in
           record {
-            m-low = passes i lent k .sound .good .m-low;
-            counts-are = sym (counts-back counts) ∙ ap countsBack (sym is ∙ said ∙ left .said-is) ∙ counts-back (countsOf i (finalSeeds i (sweepTurns byLowBits i)));
+            m-low = passes i (inOne bump) lent k .sound .good .m-low;
+            counts-are = sym (counts-back counts) ∙ ap countsBack (sym is ∙ said ∙ left .said-is) ∙ counts-back (countsOf i (finalSeeds i (sweepTurns byLowBits 1 i)));
             seeds-are = f ∙ left .seeds-are;
             bitmap-is = g ∙ left .bitmap-is;
             text = ap (λ (s : Said). printed s (doneOf i)) (sym said-own ∙ is);

@@ -8,6 +8,7 @@ use lib.Dec.{eqb, ltb}
 use lib.ListN.{length}
 use Rattle.rules.specs.Numbers.{Lent, firstOf, linesTo7, bitmapWords}
 use Rattle.rules.specs.Order.{Input, byLowBits}
+use Rattle.rules.specs.Chunks.{inOne}
 use Rattle.rules.specs.Sweep.{finalSeeds, finalBitmap}
 use Rattle.rules.specs.Holes.{holesOf}
 use Rattle.rules.specs.Answers.{Said, Answer, Refusal, countsOf, sweepTurns, sweepAnswer, workNeeded}
@@ -27,17 +28,17 @@ lentBy i = record { seeds = i .settings .buckets; bitmap = bitmapWords (i .setti
 -- the listing of a sweep that was done
 unfoldable pub doneOf : Input → List ℕ
 doneOf i =
-    let seeds = finalSeeds i (sweepTurns byLowBits i) in
-    doneText (i .settings .m) (length (i .hashes)) (countsOf i seeds) (i .begins) seeds (holesOf (i .settings .m) (finalBitmap i (sweepTurns byLowBits i)))
+    let seeds = finalSeeds i (sweepTurns byLowBits 1 i) in
+    doneText (i .settings .m) (length (i .hashes)) (countsOf i seeds) (i .begins) seeds (holesOf (i .settings .m) (finalBitmap i (sweepTurns byLowBits 1 i)))
 
 -- a refusal as it is said, or the listing
 unfoldable pub printed : Said → (done : List ℕ) → List ℕ
 printed (Answer values) done = done
 printed (Refusal number named) done = refusedText number named
 
--- the sweep that the numbers ask for, with the house table; the program keeps to the rule for ties by low bits
+-- the sweep that the numbers ask for, with the house table, in one chunk; the program keeps to the rule for ties by low bits
 unfoldable pub sweptText : (bump : Bool) → Input → List ℕ
-sweptText bump i = printed (sweepAnswer byLowBits bump i (lentBy i)) (doneOf i)
+sweptText bump i = printed (sweepAnswer byLowBits (inOne bump) i (lentBy i)) (doneOf i)
 
 unfoldable pub askedText : (ns : List ℕ) → List ℕ
 askedText ns =

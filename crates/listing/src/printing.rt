@@ -22,6 +22,7 @@ use list_input::weights_of;
 use list_output::done_text;
 use list_output::refused_text;
 use rules::Counts;
+use rules::How;
 use rules::Listed;
 use rules::Named;
 use rules::Outcome;
@@ -54,7 +55,7 @@ fn listed(
     }
 }
 
-// The sweep in buffers of the lengths wanted, and what is printed of it.
+// The sweep, in one chunk, in buffers of the lengths wanted, and what is printed of it.
 fn swept(
     settings: Settings,
     weights: [i64; 7],
@@ -73,10 +74,14 @@ fn swept(
     ensures { λ r. ⌜ (r ≡ length (sweptText bump (inputOf settings weights (now (hashes .entry)) (now (begins .entry)) (now (table .entry))))) × (r ≤ 32768) ⌝ }
     ensures { λ _. ⌜ now (out .exit) ≡ sets (now (out .entry)) 0 (sweptText bump (inputOf settings weights (now (hashes .entry)) (now (begins .entry)) (now (table .entry)))) ⌝ }
 {
+    let how = How {
+        bump: bump,
+        chunks: 1,
+    };
     let r = sweep(
         settings,
         weights,
-        bump,
+        how,
         hashes,
         begins,
         table,

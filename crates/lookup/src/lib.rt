@@ -4,11 +4,14 @@ ghost use lib.ListN.{length};
 ghost use Rattle.rules.specs.Holes.{lookedUp};
 ghost use Rattle.rules.specs.Answers.{Answer, saidLooked, lookupAnswer};
 ghost use Rattle.geometry.specs.Shape.{Made};
+ghost use Rattle.geometry.specs.Usual.{usualSettings};
 use geometry::place::bucket_of;
 use geometry::place::position;
 use geometry::settings::number_to_6;
 use geometry::shape::Geometry;
 use geometry::shape::geometry_of;
+use geometry::usual::literal;
+use geometry::usual::usual_settings;
 use rules::Looked;
 use rules::Settings;
 
@@ -26,8 +29,9 @@ pub fn lookup_in(g: Geometry, seeds: &[u16], hash: u64) -> Looked
     Looked::At(position(g, hash, seed))
 }
 
-// Looks a hash up. It need not be that of a key, and a seed is used as it stands.
-pub fn lookup(settings: Settings, seeds: &[u16], hash: u64) -> Looked
+// The lookup past the choice of its shape: in the default one the geometry's numbers are literals.
+fn lookup_by(default: bool, settings: Settings, seeds: &[u16], hash: u64) -> Looked
+    requires { ⌜ default ≡ usualSettings settings ⌝ }
     ensures { λ r. ⌜ saidLooked r ≡ lookupAnswer settings (now (seeds .entry)) hash ⌝ }
 {
     let n = number_to_6(settings);
@@ -38,5 +42,19 @@ pub fn lookup(settings: Settings, seeds: &[u16], hash: u64) -> Looked
     if seeds.len() as u64 != buckets {
         return Looked::Refused(13);
     }
-    lookup_in(geometry_of(settings), seeds, hash)
+    let g = geometry_of(settings);
+    if default {
+        return lookup_in(literal(g), seeds, hash);
+    }
+    lookup_in(g, seeds, hash)
+}
+
+// Looks a hash up. It need not be that of a key, and a seed is used as it stands.
+pub fn lookup(settings: Settings, seeds: &[u16], hash: u64) -> Looked
+    ensures { λ r. ⌜ saidLooked r ≡ lookupAnswer settings (now (seeds .entry)) hash ⌝ }
+{
+    if usual_settings(settings) {
+        return lookup_by(true, settings, seeds, hash);
+    }
+    lookup_by(false, settings, seeds, hash)
 }

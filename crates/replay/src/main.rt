@@ -17,6 +17,7 @@ use list_input::bump_of;
 use list_input::settings_of;
 use list_input::weights_of;
 use reading::number;
+use rules::How;
 use rules::Settings;
 use sweep::sweep;
 
@@ -44,7 +45,7 @@ fn swept(
     i: u64,
     settings: Settings,
     weights: [i64; 7],
-    bump: bool,
+    how: How,
     hashes: &[u64],
     begins: &[u32],
     table: &[u32],
@@ -62,7 +63,7 @@ fn swept(
     let here = in_numbers(sweep(
         settings,
         weights,
-        bump,
+        how,
         hashes,
         begins,
         table,
@@ -82,7 +83,7 @@ fn fitted(
     i: u64,
     settings: Settings,
     weights: [i64; 7],
-    bump: bool,
+    how: How,
     hashes: &[u64],
     begins: &[u32],
     table: &[u32],
@@ -97,6 +98,7 @@ fn fitted(
     let v = check_all(
         settings,
         weights,
+        how,
         hashes,
         begins,
         table,
@@ -115,7 +117,7 @@ fn fitted(
         i,
         settings,
         weights,
-        bump,
+        how,
         hashes,
         begins,
         table,
@@ -155,7 +157,10 @@ fn case(
     let head = reading::head();
     let settings = settings_of(&head);
     let weights = weights_of(&head);
-    let bump = bump_of(&head);
+    let how = How {
+        bump: bump_of(&head),
+        chunks: 1,
+    };
     let buckets = settings.buckets as usize;
     let slots = settings.m as usize;
     let ends = std::num::wrapping_add_u64(settings.buckets, 1) as usize;
@@ -181,7 +186,7 @@ fn case(
         i,
         settings,
         weights,
-        bump,
+        how,
         &hashes[..keys],
         &begins[..ends],
         table,

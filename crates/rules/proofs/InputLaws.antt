@@ -1,4 +1,4 @@
--- An input passes 1 to 12 exactly where it is `Sound`, and with what is lent passes 1 to 13 exactly where it is `Passed`. Assumes nothing.
+-- An input passes 1 to 12 exactly where it is `Sound`, and with the way to sweep and what is lent passes all checks exactly where it is `Passed`. Assumes nothing.
 use mathlib.Core.Path.{_≡_, _∙_}
 use mathlib.Core.Logic.{_⊎_, inl, inr}
 use mathlib.Core.Bool.{Bool, true, not, _||_}
@@ -12,12 +12,13 @@ use lib.Arith.{le→nltb}
 use lib.IntN as Int
 use lib.IntN.{ℤ, natAbs}
 use lib.ListN.{length, getD}
+use Rattle.rules.specs.declared.How.{How}
 use Rattle.rules.specs.Lists.{below, every}
 use Rattle.rules.specs.Geometry.{bucketOf, entries, workWords}
 use Rattle.rules.specs.Order.{Input, keysOf, sizeOf}
-use Rattle.rules.specs.Numbers.{Lent, firstOf, moderate, stepUp, rising, bitmapWords, largest, smallBucket, isHome, allHome, line8, line9, line10, line11, line12, line13, linesTo7, sweepLines}
+use Rattle.rules.specs.Numbers.{Lent, firstOf, moderate, stepUp, rising, bitmapWords, largest, smallBucket, isHome, allHome, line8, line9, line10, line11, line12, line13, line20, linesTo7, sweepLines}
 use Rattle.rules.specs.Good.{Rising, Grouped, Moderate, Priced, Sound, Passed}
-use Rattle.rules.proofs.Tests.{and-left, and-both, not-or, not-or-left, not-or-right, of-not-not, not-not, eq→eqb, elem-mem, mem-elem}
+use Rattle.rules.proofs.Tests.{and-left, and-both, not-or, not-or-left, not-or-right, of-not-not, not-not, neq, neq→neqb, eq→eqb, elem-mem, mem-elem}
 use Rattle.rules.proofs.Lines.{Numbered, none-zero, first-none, first-append-none, first-append-zero}
 use Rattle.rules.proofs.Ranges.{every-at, at-every, every-below, below-every, every-getD, getD-every}
 use Rattle.rules.proofs.CheckLaws.{numbered-7, passes-7, good-7}
@@ -59,6 +60,16 @@ steps-climb xs size step a (suc c) h k = go (eq-or-lt-of-le h) (steps-climb xs s
 pub climb-steps : (xs : List ℕ) (size : ℕ) → Rising xs size → (b : ℕ) → b < size - 1 → getD xs b 0 ≤ getD xs (b + 1) 0
 unfolding Rising
 climb-steps xs size R b h = R b (b + 1) (omega arith) (omega arith)
+
+-- ---- line 20
+
+pub passes-20 : (how : How) → T (not (line20 how .applies)) → 1 ≤ how .chunks
+unfolding line20
+passes-20 how t = let n = neq (how .chunks) 0 t in omega arith
+
+pub chunked-20 : (how : How) → 1 ≤ how .chunks → T (not (line20 how .applies))
+unfolding line20
+chunked-20 how h = neq→neqb (how .chunks) 0 (λ e. omega arith)
 
 -- ---- lines 8 to 13
 
@@ -151,17 +162,18 @@ module _ (i : Input) where
       not-not (every (allHome i) (below B))
       (below-every (allHome i) B (λ b h. at-every (isHome i b) (keysOf i b) (λ k m. eq→eqb (bucketOf (i .settings) k) b (g .home b h k (mem-elem m)))))
 
-  module _ (lent : Lent) where
-    passes-13 : T (not (line13 i lent .applies)) → Sound i → Passed i lent
+  module _ (how : How) (lent : Lent) where
+    passes-13 : T (not (line13 i lent .applies)) → Sound i → 1 ≤ how .chunks → Passed how i lent
     unfolding line13
-    passes-13 t s = record {
+    passes-13 t s c = record {
       sound = s;
+      some-chunk = c;
       seeds = eqb→eq (lent .seeds) B (of-not-not (eqb (lent .seeds) B) (search (not-or-left, not-or-right, t)));
       bitmap = eqb→eq (lent .bitmap) (bitmapWords (i .settings .m)) (of-not-not (eqb (lent .bitmap) (bitmapWords (i .settings .m))) (search (not-or-left, not-or-right, t)));
       work = nltb→le (lent .work) (workWords (i .settings) (largest i)) (search (not-or-left, not-or-right, t));
     }
 
-    passed-13 : Passed i lent → T (not (line13 i lent .applies))
+    passed-13 : Passed how i lent → T (not (line13 i lent .applies))
     unfolding line13
     passed-13 p =
         not-or (not t1 || not t2) t3
@@ -177,17 +189,18 @@ module _ (i : Input) where
         t3 : Bool
         t3 = ltb (lent .work) (workWords (i .settings) (largest i))
 
-    numbered-13 : Numbered (line8 i ∷ line9 i ∷ line10 i ∷ line11 i ∷ line12 i ∷ line13 i lent ∷ [])
-    unfolding line8 line9 line10 line11 line12 line13
+    numbered-13 : Numbered (line8 i ∷ line20 how ∷ line9 i ∷ line10 i ∷ line11 i ∷ line12 i ∷ line13 i lent ∷ [])
+    unfolding line8 line9 line10 line11 line12 line13 line20
     numbered-13 = tt
 
-    -- the call was not refused by 1 to 13: exactly this
-    pub passes : firstOf (sweepLines i lent) ≡ 0 → Passed i lent
+    -- the call was not refused by a check: exactly this
+    pub passes : firstOf (sweepLines how i lent) ≡ 0 → Passed how i lent
     unfolding sweepLines
     passes e =
-        let n = first-append-none (linesTo7 (i .settings)) (line8 i ∷ line9 i ∷ line10 i ∷ line11 i ∷ line12 i ∷ line13 i lent ∷ []) (numbered-7 (i .settings)) e in
-        let n8 = first-none (line8 i ∷ line9 i ∷ line10 i ∷ line11 i ∷ line12 i ∷ line13 i lent ∷ []) numbered-13 (n .1) in
-        let n9 = n8 .1 in
+        let n = first-append-none (linesTo7 (i .settings)) (line8 i ∷ line20 how ∷ line9 i ∷ line10 i ∷ line11 i ∷ line12 i ∷ line13 i lent ∷ []) (numbered-7 (i .settings)) e in
+        let n8 = first-none (line8 i ∷ line20 how ∷ line9 i ∷ line10 i ∷ line11 i ∷ line12 i ∷ line13 i lent ∷ []) numbered-13 (n .1) in
+        let n20 = n8 .1 in
+        let n9 = n20 .1 in
         let n10 = n9 .1 in
         let n11 = n10 .1 in
         let n12 = n11 .1 in
@@ -197,11 +210,11 @@ module _ (i : Input) where
           moderate = passes-8 (n8 .0);
           grouped = passes-9-11 (n9 .0) (n10 .0) (n11 .0);
           priced = passes-12 (n12 .0);
-        })
+        }) (passes-20 how (n20 .0))
 
-    pub passed : Passed i lent → firstOf (sweepLines i lent) ≡ 0
+    pub passed : Passed how i lent → firstOf (sweepLines how i lent) ≡ 0
     unfolding sweepLines
     passed p =
-        first-append-zero (linesTo7 (i .settings)) (line8 i ∷ line9 i ∷ line10 i ∷ line11 i ∷ line12 i ∷ line13 i lent ∷ []) (numbered-7 (i .settings)) (good-7 (i .settings) (p .sound .good))
-        ∙ none-zero (line8 i ∷ line9 i ∷ line10 i ∷ line11 i ∷ line12 i ∷ line13 i lent ∷ [])
-        (moderate-8 (p .sound .moderate), (grouped-9 (p .sound .grouped), (grouped-10 (p .sound .grouped), (grouped-11 (p .sound .grouped), (priced-12 (p .sound .priced), (passed-13 p, tt))))))
+        first-append-zero (linesTo7 (i .settings)) (line8 i ∷ line20 how ∷ line9 i ∷ line10 i ∷ line11 i ∷ line12 i ∷ line13 i lent ∷ []) (numbered-7 (i .settings)) (good-7 (i .settings) (p .sound .good))
+        ∙ none-zero (line8 i ∷ line20 how ∷ line9 i ∷ line10 i ∷ line11 i ∷ line12 i ∷ line13 i lent ∷ [])
+        (moderate-8 (p .sound .moderate), (chunked-20 how (p .some-chunk), (grouped-9 (p .sound .grouped), (grouped-10 (p .sound .grouped), (grouped-11 (p .sound .grouped), (priced-12 (p .sound .priced), (passed-13 p, tt)))))))

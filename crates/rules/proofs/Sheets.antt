@@ -14,10 +14,11 @@ use Rattle.rules.specs.declared.Settings.{Settings}
 use Rattle.rules.specs.Lists.{indicator, every}
 use Rattle.rules.specs.Geometry.{sliceLen, logLen, slices, scale, layouts, bucketOf, sliceOf, offsetOf, quotient, first, layoutOffset, position, stride, ringLen, rotations, perBucket, ringSlots, entries, workWords}
 use Rattle.rules.specs.Order.{Input, byLowBits, sizeOf, keysOf, weightEntry, weight, priority, goesFirst, nonempty, turn, turns, order}
+use Rattle.rules.specs.Chunks.{chunkGap, chunkCount, bound, shortChunk, lastChunk, gapChunk, rangesOf, ranges, orderIn, ordersOf, inOne}
 use Rattle.rules.specs.Seed.{isFirst, barred, unbarred, candidates, seedOf, slotsOf, fits, price, cost, cheaper, candidateFits, fitting, seedOfLeast, seedFor}
 use Rattle.rules.specs.Sweep.{takes, given, marks, seedIn, firstZero, wordOf, bitmapOf, finalSeeds, finalMarks, finalBitmap, failsAt}
 use Rattle.rules.specs.Holes.{unmarked, holesOf, slotBy, lookedUp, foundSlots}
-use Rattle.rules.specs.Numbers.{Lent, firstOf, line1, line2, line3, line4, line5, line6, line7, linesTo6, linesTo7, moderate, stepUp, rising, largestOf, largest, line8, line9, line10, line11, line12, line13, smallBucket, isHome, allHome, sweepLines}
+use Rattle.rules.specs.Numbers.{Lent, firstOf, line1, line2, line3, line4, line5, line6, line7, linesTo6, linesTo7, moderate, stepUp, rising, largestOf, largest, line8, line9, line10, line11, line12, line13, line20, smallBucket, isHome, allHome, sweepLines}
 use Rattle.rules.specs.Answers.{Said, Answer, Refusal, countValues, unless, keptUnless, placedKeys, bumpedKeys, zeroBucket, countsOf, ranAnswer, ranBuffer, sweepTurns, stopsAt, sweepNumber, sweepAnswer, sweepSeeds, sweepBitmap, workNeeded}
 
 -- the first entries of the house table
@@ -62,11 +63,11 @@ lentFor i = record { seeds = i .settings .buckets; bitmap = 1; work = workNeeded
 
 -- to unfold `runs` is to unfold all that its line names
 unfoldable pub runs : Bool → Input → Said → List ℕ → List ℕ → List ℕ → Bool
-unfolding sameSaid same lentFor sliceLen logLen slices scale layouts bucketOf sliceOf offsetOf quotient first layoutOffset position stride ringLen rotations perBucket ringSlots entries workWords leastFrom logUp leastPower sizeOf keysOf weightEntry weight held priority goesFirst nonempty turn turns order isFirst barred unbarred candidates seedOf slotsOf fits price cost cheaper candidateFits fitting seedOfLeast seedFor takes given marks seedIn firstZero wordOf bitmapOf finalSeeds finalMarks finalBitmap failsAt bit slot unmarked holesOf slotBy lookedUp foundSlots firstOf line1 line2 line3 line4 line5 line6 line7 linesTo6 linesTo7 moderate stepUp rising largestOf largest line8 line9 line10 line11 line12 line13 smallBucket isHome allHome sweepLines countValues unless keptUnless placedKeys bumpedKeys zeroBucket countsOf ranAnswer ranBuffer sweepTurns stopsAt sweepNumber sweepAnswer sweepSeeds sweepBitmap workNeeded
+unfolding sameSaid same lentFor sliceLen logLen slices scale layouts bucketOf sliceOf offsetOf quotient first layoutOffset position stride ringLen rotations perBucket ringSlots entries workWords leastFrom logUp leastPower sizeOf keysOf weightEntry weight held priority goesFirst nonempty turn turns order isFirst barred unbarred candidates seedOf slotsOf fits price cost cheaper candidateFits fitting seedOfLeast seedFor takes given marks seedIn firstZero wordOf bitmapOf finalSeeds finalMarks finalBitmap failsAt bit slot unmarked holesOf slotBy lookedUp foundSlots firstOf line1 line2 line3 line4 line5 line6 line7 linesTo6 linesTo7 moderate stepUp rising largestOf largest line8 line9 line10 line11 line12 line13 line20 smallBucket isHome allHome sweepLines countValues unless keptUnless placedKeys bumpedKeys zeroBucket countsOf ranAnswer ranBuffer chunkGap chunkCount bound shortChunk lastChunk gapChunk rangesOf ranges orderIn ordersOf sweepTurns stopsAt sweepNumber sweepAnswer sweepSeeds sweepBitmap workNeeded
 runs bump i said seeds found holes =
-    let after = sweepSeeds byLowBits bump i (lentFor i) (replicate (i .settings .buckets) 7) in
-    let bitmap = sweepBitmap byLowBits bump i (lentFor i) (12345 ∷ []) in
-    sameSaid (sweepAnswer byLowBits bump i (lentFor i)) said && same after seeds && same (foundSlots (i .settings) after (i .hashes)) found && same (holesOf (i .settings .m) bitmap) holes
+    let after = sweepSeeds byLowBits (inOne bump) i (lentFor i) (replicate (i .settings .buckets) 7) in
+    let bitmap = sweepBitmap byLowBits (inOne bump) i (lentFor i) (12345 ∷ []) in
+    sameSaid (sweepAnswer byLowBits (inOne bump) i (lentFor i)) said && same after seeds && same (foundSlots (i .settings) after (i .hashes)) found && same (holesOf (i .settings .m) bitmap) holes
 
 rivalsOf : Input → ℕ → ℕ → List ℕ
 unfolding sizeOf keysOf slotsOf fits price cost position layoutOffset offsetOf sliceOf first quotient layouts scale slices sliceLen logLen leastFrom logUp leastPower

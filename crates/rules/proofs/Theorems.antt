@@ -1,9 +1,9 @@
--- What is promised of a sweep that 1 to 13 do not refuse, in one place. `swept`: the order, each bucket at its turn, and where the keys are. `stopped`:
+-- What is promised of a sweep that no check refuses, in one place. `swept`: the order, each bucket at its turn, and where the keys are. `stopped`:
 -- the same of a sweep refused by 14, up to and with the bucket named, before the clearing. Each part is a law of the file of its subject; here they are
 -- put together with no hypothesis but "not refused" and that the hashes are 64-bit numbers. Assumes nothing.
 use mathlib.Core.Path.{_≡_, sym, ap, _∙_, subst}
 use mathlib.Core.Logic.{_⊎_, inl, inr, _≢_}
-use mathlib.Core.Bool.{false, not}
+use mathlib.Core.Bool.{not}
 use mathlib.Core.List.{List, [], _∷_, _++_, map, append-assoc}
 use mathlib.Core.Option.{some}
 use Prim.Native.Nat.{ℕ, _+_, _-_, _^_, _<_, _≤_}
@@ -12,11 +12,13 @@ use native.Mathlib.Omega.{arith}
 use lib.Dec.{T, not-T, eqb, eqb→eq, lit≤}
 use lib.ListN.{length, getD}
 use Rattle.words.specs.Map.{Words}
+use Rattle.rules.specs.declared.How.{How}
 use Rattle.rules.specs.Lists.{elem, count, indicator}
 use Rattle.rules.specs.Geometry.{position, first, ringLen, rotations}
 use Rattle.rules.specs.Order.{Input, Tie, byLowBits, goesFirst, hasKeys, nonempty, order, keysOf}
+use Rattle.rules.specs.Chunks.{Range, chunkCount, ranges, ordersOf}
 use Rattle.rules.specs.Seed.{fits, cost, seedFor, slotsOf}
-use Rattle.rules.specs.Sweep.{finalSeeds, finalMarks, failsAt}
+use Rattle.rules.specs.Sweep.{given, finalSeeds, finalMarks, failsAt}
 use Rattle.rules.specs.Numbers.{Lent, firstOf, sweepLines}
 use Rattle.rules.specs.Answers.{sweepTurns, stopsAt}
 use Rattle.rules.specs.Good.{Sound}
@@ -24,12 +26,15 @@ use Rattle.rules.proofs.Tests.{split, eq→eqb}
 use Rattle.rules.proofs.Counting.{ind-true, ind-false, count-elem, not-elem-count}
 use Rattle.rules.proofs.Sums.{Same}
 use Rattle.rules.proofs.GeometryLaws.{position-lt, ring-le, entry-lt}
-use Rattle.rules.proofs.TurnLaws.{order-count, order-once, order-empty}
-use Rattle.rules.proofs.TurnUnique.{Follows, Apart, order-follows, order-only, apart-low}
+use Rattle.rules.proofs.TurnLaws.{nonempty-once, nonempty-empty}
+use Rattle.rules.proofs.TurnUnique.{Apart, apart-low}
 use Rattle.rules.proofs.SeedLaws.{fits-distinct, seed-least, seed-none, none-seed}
 use Rattle.rules.proofs.SweepLaws.{Turn, turn-of, no-turn}
 use Rattle.rules.proofs.HoleLaws.{distinct-once}
-use Rattle.rules.proofs.PlacedLaws.{Proper, Placement, placement, order-proper, proper-before}
+use Rattle.rules.proofs.PlacedLaws.{Proper, Placement, placement, proper-before}
+use Rattle.rules.proofs.ChunkLaws.{FollowsEach, count-one, one-range, orders-one, ranges-cover, orders-same, orders-proper, orders-follow, orders-only}
+use Rattle.rules.proofs.Alone.{chunksThenGaps, as-level}
+use Rattle.rules.proofs.AnswerLaws.{stops-fails}
 use Rattle.rules.proofs.StopLaws.{FirstZero, first-some, first-none}
 use Rattle.rules.proofs.InputLaws.{passes}
 
@@ -102,51 +107,65 @@ served i S w turns P b k =
 
 -- ---- a sweep that was not refused
 
-pub record Swept (tie : Tie) (i : Input) : Type 0 where
+pub record Swept (tie : Tie) (chunks : ℕ) (i : Input) : Type 0 where
   pub shape : Shaped i
-  -- the order has each nonempty bucket once and no other, it follows rule W, and nothing else does
-  pub permutes : Same (sweepTurns tie i) (nonempty i 0 (i .settings .buckets))
-  pub follows : Follows (goesFirst tie i) (nonempty i 0 (i .settings .buckets)) (sweepTurns tie i)
-  pub only : (ord : List ℕ) → Follows (goesFirst tie i) (nonempty i 0 (i .settings .buckets)) ord → ord ≡ sweepTurns tie i
+  -- the order has each nonempty bucket once and no other; in each range it follows rule W, and nothing else does
+  pub permutes : Same (sweepTurns tie chunks i) (nonempty i 0 (i .settings .buckets))
+  pub follows : FollowsEach (goesFirst tie i) i (ranges (i .settings) chunks) (sweepTurns tie chunks i)
+  pub only : (ord : List ℕ) → FollowsEach (goesFirst tie i) i (ranges (i .settings) chunks) ord → ord ≡ sweepTurns tie chunks i
+  -- its seeds are those of the chunks, each swept from no slot marked, and of the gaps, each from what the chunks marked
+  pub level : given i [] (sweepTurns tie chunks i) ≡ chunksThenGaps tie chunks i
   -- each nonempty bucket at its turn; an empty one is never taken and its seed is 0
-  pub each : (b : ℕ) → b < i .settings .buckets → T (hasKeys i b) → Served i (sweepTurns tie i) b
-  pub empty : (b : ℕ) → b < i .settings .buckets → T (not (hasKeys i b)) → getD (finalSeeds i (sweepTurns tie i)) b 0 ≡ 0
-  pub twice : (b h : ℕ) → b < i .settings .buckets → 2 ≤ count h (keysOf i b) → getD (finalSeeds i (sweepTurns tie i)) b 0 ≡ 0
+  pub each : (b : ℕ) → b < i .settings .buckets → T (hasKeys i b) → Served i (sweepTurns tie chunks i) b
+  pub empty : (b : ℕ) → b < i .settings .buckets → T (not (hasKeys i b)) → getD (finalSeeds i (sweepTurns tie chunks i)) b 0 ≡ 0
+  pub twice : (b h : ℕ) → b < i .settings .buckets → 2 ≤ count h (keysOf i b) → getD (finalSeeds i (sweepTurns tie chunks i)) b 0 ≡ 0
   -- where the keys are
-  pub placed : Placement i (sweepTurns tie i)
+  pub placed : Placement i (sweepTurns tie chunks i)
 
-module _ (tie : Tie) (i : Input) (lent : Lent) (fine : firstOf (sweepLines i lent) ≡ 0) (w : Words (i .hashes)) where
-  sound : Sound i
-  sound = passes i lent fine .sound
+module _ (tie : Tie) (how : How) (i : Input) where
+  abbrev parts : List Range
+  parts = ranges (i .settings) (how .chunks)
 
-  proper : Proper i (sweepTurns tie i)
+  abbrev taken : List ℕ
+  taken = sweepTurns tie (how .chunks) i
+
+  -- each nonempty bucket once and no other
+  pub turns-permuted : Same taken (nonempty i 0 (i .settings .buckets))
   unfolding sweepTurns
-  proper = order-proper tie i 0 (i .settings .buckets) (omega arith)
+  turns-permuted = orders-same tie i (i .settings .buckets) parts (ranges-cover (i .settings) (how .chunks))
 
-  pub swept : Apart (goesFirst tie i) → Swept tie i
+  pub turns-proper : Proper i taken
   unfolding sweepTurns
-  swept A = record {
-    shape = shaped i sound;
-    permutes = order-count tie i 0 (i .settings .buckets);
-    follows = order-follows tie i 0 (i .settings .buckets);
-    only = order-only tie i 0 (i .settings .buckets) A;
-    each = λ b h k. served i sound w (order tie i 0 (i .settings .buckets)) proper b (count-elem b (order tie i 0 (i .settings .buckets)) (omega (arith, order-once tie i 0 (i .settings .buckets) b (omega arith) h k)));
-    empty = λ b h k. no-turn i (order tie i 0 (i .settings .buckets)) b h (order-empty tie i 0 (i .settings .buckets) b k);
-    twice = λ b h l two. equal b h l two (split (elem b (order tie i 0 (i .settings .buckets))));
-    placed = placement i sound w (order tie i 0 (i .settings .buckets)) proper;
-  }
-    where
-      equal : (b h : ℕ) → b < i .settings .buckets → 2 ≤ count h (keysOf i b) → T (elem b (order tie i 0 (i .settings .buckets))) ⊎ T (not (elem b (order tie i 0 (i .settings .buckets))))
-          → getD (finalSeeds i (order tie i 0 (i .settings .buckets))) b 0 ≡ 0
-      equal b h l two (inl t) = let s = served i sound w (order tie i 0 (i .settings .buckets)) proper b t in s .none-zero (λ v ne lt. twice-none i (finalMarks i (s .turn .before)) b h two v)
-      equal b h l two (inr t) = no-turn i (order tie i 0 (i .settings .buckets)) b l (not-elem-count b (order tie i 0 (i .settings .buckets)) t)
+  turns-proper = orders-proper tie i parts (ranges-cover (i .settings) (how .chunks))
+
+  module _ (lent : Lent) (fine : firstOf (sweepLines how i lent) ≡ 0) (w : Words (i .hashes)) where
+    sound : Sound i
+    sound = passes i how lent fine .sound
+
+    pub swept : Apart (goesFirst tie i) → Swept tie (how .chunks) i
+    unfolding sweepTurns
+    swept A = record {
+      shape = shaped i sound;
+      permutes = turns-permuted;
+      follows = orders-follow tie i parts;
+      only = orders-only tie i A parts;
+      level = as-level tie (how .chunks) i (sound .good) (sound .grouped);
+      each = λ b h k. served i sound w taken turns-proper b (count-elem b taken (omega (arith, turns-permuted b, nonempty-once i 0 (i .settings .buckets) b (omega arith) h k)));
+      empty = λ b h k. no-turn i taken b h (turns-permuted b ∙ nonempty-empty i 0 (i .settings .buckets) b k);
+      twice = λ b h l two. equal b h l two (split (elem b taken));
+      placed = placement i sound w taken turns-proper;
+    }
+      where
+        equal : (b h : ℕ) → b < i .settings .buckets → 2 ≤ count h (keysOf i b) → T (elem b taken) ⊎ T (not (elem b taken)) → getD (finalSeeds i taken) b 0 ≡ 0
+        equal b h l two (inl t) = let s = served i sound w taken turns-proper b t in s .none-zero (λ v ne lt. twice-none i (finalMarks i (s .turn .before)) b h two v)
+        equal b h l two (inr t) = no-turn i taken b l (not-elem-count b taken t)
 
 -- ---- a sweep that 14 refused: bumping is forbidden and bucket b, the first in turn, gets 0
 
-pub record Stopped (tie : Tie) (i : Input) (b : ℕ) : Type 0 where
+pub record Stopped (tie : Tie) (chunks : ℕ) (i : Input) (b : ℕ) : Type 0 where
   pub before : List ℕ
   pub after : List ℕ
-  pub ordered : sweepTurns tie i ≡ before ++ b ∷ after
+  pub ordered : sweepTurns tie chunks i ≡ before ++ b ∷ after
   -- each bucket up to and with b, at its turn
   pub each : (c : ℕ) → T (elem c (before ++ b ∷ [])) → Served i (before ++ b ∷ []) c
   -- those before b got a seed that is not 0, and b got 0
@@ -155,25 +174,34 @@ pub record Stopped (tie : Tie) (i : Input) (b : ℕ) : Type 0 where
   -- where the keys were before the clearing
   pub placed : Placement i (before ++ b ∷ [])
 
-pub stopped : (tie : Tie) (i : Input) (lent : Lent) → firstOf (sweepLines i lent) ≡ 0 → Words (i .hashes) → (b : ℕ) → stopsAt tie false i ≡ some b → Stopped tie i b
-unfolding stopsAt failsAt finalMarks
-stopped tie i lent fine w b e = record {
+pub stopped : (tie : Tie) (how : How) (i : Input) (lent : Lent) → firstOf (sweepLines how i lent) ≡ 0 → Words (i .hashes) → (b : ℕ) → stopsAt tie how i ≡ some b → Stopped tie (how .chunks) i b
+unfolding failsAt finalMarks
+stopped tie how i lent fine w b e = record {
   before = z .before;
   after = z .after;
   ordered = z .ordered;
-  each = λ c t. served i (sound tie i lent fine w) w (z .before ++ b ∷ []) taken c t;
+  each = λ c t. served i (sound tie how i lent fine w) w (z .before ++ b ∷ []) before-it c t;
   passed = first-none i (z .before) [] (z .none-before);
   refused = z .gets-zero;
-  placed = placement i (sound tie i lent fine w) w (z .before ++ b ∷ []) taken;
+  placed = placement i (sound tie how i lent fine w) w (z .before ++ b ∷ []) before-it;
 }
   where
-    z : FirstZero i [] (sweepTurns tie i) b
-    z = first-some i (sweepTurns tie i) [] b e
+    z : FirstZero i [] (sweepTurns tie (how .chunks) i) b
+    z = first-some i (sweepTurns tie (how .chunks) i) [] b (stops-fails tie how i b e)
 
-    taken : Proper i (z .before ++ b ∷ [])
-    taken = proper-before i (z .before ++ b ∷ []) (z .after) (subst (Proper i) (z .ordered ∙ sym (append-assoc (z .before) (b ∷ []) (z .after))) (proper tie i lent fine w))
+    before-it : Proper i (z .before ++ b ∷ [])
+    before-it = proper-before i (z .before ++ b ∷ []) (z .after) (subst (Proper i) (z .ordered ∙ sym (append-assoc (z .before) (b ∷ []) (z .after))) (turns-proper tie how i))
 
 -- ---- document 01's rule for ties
 
-pub swept-low : (i : Input) (lent : Lent) → firstOf (sweepLines i lent) ≡ 0 → Words (i .hashes) → Swept byLowBits i
-swept-low i lent fine w = swept byLowBits i lent fine w (apart-low i)
+pub swept-low : (how : How) (i : Input) (lent : Lent) → firstOf (sweepLines how i lent) ≡ 0 → Words (i .hashes) → Swept byLowBits (how .chunks) i
+swept-low how i lent fine w = swept byLowBits how i lent fine w (apart-low i)
+
+-- ---- one chunk, asked for or all that the level is long enough for: the order of the whole range
+
+pub one-chunk : (tie : Tie) (c : ℕ) (i : Input) → chunkCount (i .settings) c ≡ 1 → sweepTurns tie c i ≡ order tie i 0 (i .settings .buckets)
+unfolding sweepTurns
+one-chunk tie c i e = ap (ordersOf tie i) (one-range (i .settings) c e) ∙ orders-one tie i 0 (i .settings .buckets)
+
+pub as-before : (tie : Tie) (i : Input) → sweepTurns tie 1 i ≡ order tie i 0 (i .settings .buckets)
+as-before tie i = one-chunk tie 1 i (count-one (i .settings))

@@ -1,12 +1,13 @@
 -- The complete answer of each public call, and each lent word afterwards, from the arguments as they came in. Assumes nothing.
 use Prim.Native.Nat.{ℕ, zero, suc}
-use mathlib.Core.Bool.{Bool, cond}
+use mathlib.Core.Bool.{cond}
 use mathlib.Core.List.{List, [], _∷_, _++_}
 use mathlib.Core.Option.{Option, none, some}
 use lib.Dec.{eqb}
 use lib.Ieee.{Float}
 use lib.ListN.{getD, length, drop, replicate}
 use Rattle.rules.specs.declared.Settings.{Settings}
+use Rattle.rules.specs.declared.How.{How}
 use Rattle.rules.specs.declared.Counts.{Counts}
 use Rattle.rules.specs.declared.Named.{Named}
 use Rattle.rules.specs.declared.Named.the-variants.{Bucket, NoBucket}
@@ -24,7 +25,8 @@ use Rattle.rules.specs.declared.Counted.the-variants as Count
 use Rattle.rules.specs.Lists.{below, total, indicator}
 use Rattle.rules.specs.Geometry.{workWords}
 use Rattle.rules.specs.BucketCount.{bucketsFor}
-use Rattle.rules.specs.Order.{Input, Tie, order, sizeOf}
+use Rattle.rules.specs.Order.{Input, Tie, sizeOf}
+use Rattle.rules.specs.Chunks.{ranges, ordersOf}
 use Rattle.rules.specs.Sweep.{finalSeeds, finalBitmap, failsAt}
 use Rattle.rules.specs.Holes.{holesOf, lookedUp}
 use Rattle.rules.specs.Numbers.{Lent, firstOf, largest, linesTo7, sweepLines, lookupLines, holesLines, countLines}
@@ -122,32 +124,32 @@ unfoldable pub ranBuffer : Option ℕ → (before after : List ℕ) → List ℕ
 ranBuffer none before after = after
 ranBuffer (some b) before after = replicate (length before) 0
 
--- the turns of the whole sweep
-unfoldable pub sweepTurns : Tie → Input → List ℕ
-sweepTurns tie i = order tie i 0 (i .settings .buckets)
+-- the turns of the whole sweep, in chunks
+unfoldable pub sweepTurns : Tie → (chunks : ℕ) → Input → List ℕ
+sweepTurns tie chunks i = ordersOf tie i (ranges (i .settings) chunks)
 
 -- 14: bumping forbidden and the bucket taken gets 0
-unfoldable pub stopsAt : Tie → (bump : Bool) → Input → Option ℕ
-stopsAt tie bump i = cond bump none (failsAt i (sweepTurns tie i))
+unfoldable pub stopsAt : Tie → How → Input → Option ℕ
+stopsAt tie how i = cond (how .bump) none (failsAt i (sweepTurns tie (how .chunks) i))
 
--- the first of the numbers 1 to 13 that applies
-unfoldable pub sweepNumber : Input → Lent → ℕ
-sweepNumber i lent = firstOf (sweepLines i lent)
+-- the first that applies of the numbers that are checked before the first turn
+unfoldable pub sweepNumber : How → Input → Lent → ℕ
+sweepNumber how i lent = firstOf (sweepLines how i lent)
 
-module _ (tie : Tie) (bump : Bool) (i : Input) (lent : Lent) where
+module _ (tie : Tie) (how : How) (i : Input) (lent : Lent) where
   unfoldable pub sweepAnswer : Said
-  sweepAnswer = unless (sweepNumber i lent) (ranAnswer (stopsAt tie bump i) (countsOf i (finalSeeds i (sweepTurns tie i))))
+  sweepAnswer = unless (sweepNumber how i lent) (ranAnswer (stopsAt tie how i) (countsOf i (finalSeeds i (sweepTurns tie (how .chunks) i))))
 
   unfoldable pub sweepSeeds : (before : List ℕ) → List ℕ
-  sweepSeeds before = keptUnless (sweepNumber i lent) before (ranBuffer (stopsAt tie bump i) before (finalSeeds i (sweepTurns tie i)))
+  sweepSeeds before = keptUnless (sweepNumber how i lent) before (ranBuffer (stopsAt tie how i) before (finalSeeds i (sweepTurns tie (how .chunks) i)))
 
   unfoldable pub sweepBitmap : (before : List ℕ) → List ℕ
-  sweepBitmap before = keptUnless (sweepNumber i lent) before (ranBuffer (stopsAt tie bump i) before (finalBitmap i (sweepTurns tie i)))
+  sweepBitmap before = keptUnless (sweepNumber how i lent) before (ranBuffer (stopsAt tie how i) before (finalBitmap i (sweepTurns tie (how .chunks) i)))
 
 -- W, from what was handed in
 unfoldable pub workNeeded : Input → ℕ
 workNeeded i = workWords (i .settings) (largest i)
 
 -- the first W words are zero after a sweep that ran, and the rest keep their contents
-unfoldable pub sweepWork : Input → Lent → (before : List ℕ) → List ℕ
-sweepWork i lent before = keptUnless (sweepNumber i lent) before (replicate (workNeeded i) 0 ++ drop (workNeeded i) before)
+unfoldable pub sweepWork : How → Input → Lent → (before : List ℕ) → List ℕ
+sweepWork how i lent before = keptUnless (sweepNumber how i lent) before (replicate (workNeeded i) 0 ++ drop (workNeeded i) before)

@@ -8,6 +8,7 @@ use lib.IntN as Int
 use lib.IntN.{natAbs}
 use lib.ListN.{getD, length}
 use Rattle.rules.specs.declared.Settings.{Settings}
+use Rattle.rules.specs.declared.How.{How}
 use Rattle.rules.specs.Lists.{elem}
 use Rattle.rules.specs.Geometry.{perBucket, entries, workWords, bucketOf}
 use Rattle.rules.specs.Order.{Input, sizeOf, keysOf}
@@ -72,9 +73,10 @@ pub record Sound (i : Input) : Type 0 where
   pub grouped : Grouped i
   pub priced : Priced i
 
--- with lent buffers that 13 does not refuse
-pub record Passed (i : Input) (lent : Lent) : Type 0 where
+-- with a way to sweep that 20 does not refuse, and lent buffers that 13 does not
+pub record Passed (how : How) (i : Input) (lent : Lent) : Type 0 where
   pub sound : Sound i
+  pub some-chunk : 1 ≤ how .chunks
   pub seeds : lent .seeds ≡ i .settings .buckets
   pub bitmap : lent .bitmap ≡ bitmapWords (i .settings .m)
   pub work : workWords (i .settings) (largest i) ≤ lent .work

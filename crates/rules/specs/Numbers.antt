@@ -1,4 +1,4 @@
--- The numbers 1 to 13 and 15 to 17 that a call can come back with, and the order in which each call checks. Assumes nothing.
+-- The numbers 1 to 13, 15 to 17 and 20 that a call can come back with, and the order in which each call checks. Assumes nothing.
 use Prim.Native.Nat.{ℕ, _+_, _-_, _*_, _/_, _%_, _^_, max}
 use mathlib.Core.Bool.{Bool, cond, not, _&&_, _||_}
 use mathlib.Core.List.{List, [], _∷_, _++_}
@@ -9,6 +9,7 @@ use lib.IntN.{ℤ}
 use lib.Signed.{ltZ}
 use lib.ListN.{getD, length}
 use Rattle.rules.specs.declared.Settings.{Settings}
+use Rattle.rules.specs.declared.How.{How}
 use Rattle.rules.specs.Lists.{below, every}
 use Rattle.rules.specs.Geometry.{perBucket, entries, workWords, bucketOf}
 use Rattle.rules.specs.BucketCount.{sizeCap, sizeFits}
@@ -156,9 +157,13 @@ module _ (i : Input) where
       || not (eqb (lent .bitmap) (bitmapWords (i .settings .m)))
       || ltb (lent .work) (workWords (i .settings) largest))
 
-  -- what a sweep checks before it starts
-  unfoldable pub sweepLines : Lent → List Line
-  sweepLines lent = linesTo7 (i .settings) ++ line8 ∷ line9 ∷ line10 ∷ line11 ∷ line12 ∷ line13 lent ∷ []
+-- 20: chunk count 0
+unfoldable pub line20 : How → Line
+line20 how = line 20 (eqb (how .chunks) 0)
+
+-- what a sweep checks before it starts
+unfoldable pub sweepLines : How → Input → Lent → List Line
+sweepLines how i lent = linesTo7 (i .settings) ++ line8 i ∷ line20 how ∷ line9 i ∷ line10 i ∷ line11 i ∷ line12 i ∷ line13 i lent ∷ []
 
 -- lookup checks 1 to 6, 13 (seeds only)
 unfoldable pub lookupLines : Settings → (seeds : ℕ) → List Line

@@ -31,6 +31,7 @@ use Rattle.rings.specs.LevelLaws.{shape-level}
 use Rattle.ring_keys.specs.LayoutLaws.{homes-of, keys-within, keys-in-map}
 use Rattle.ring_keys.specs.CostLaws.{candidate-slot}
 use Rattle.search.specs.Slots.{slotsAt, Unused, Reached}
+use Rattle.search.specs.Settle.{Blank}
 use Rattle.search.specs.SlotLaws.{length-slots, slots-at, free-at, at-free}
 use Rattle.search.specs.Candidates.{ringIn, startOf, rowOf, at, seedAt}
 use Rattle.search.specs.Searching.{Marks, Held}
@@ -80,7 +81,7 @@ elem-behind x (z ∷ xs) ys t = rw (is-false (eqb x z) (not-or-left (eqb x z) (e
 -- ---- the bitmap with the keys' slots marked
 
 module _ (g : Ring) (bitmap keys : List ℕ) (start j : ℕ) where
-  map-out : (k q : ℕ) → ((m : ℕ) → m < k → q ≢ keySlot g keys start j m) → slot (mapTo g bitmap keys start j k) q ≡ slot bitmap q
+  pub map-out : (k q : ℕ) → ((m : ℕ) → m < k → q ≢ keySlot g keys start j m) → slot (mapTo g bitmap keys start j k) q ≡ slot bitmap q
   unfolding mapTo
   map-out zero q h = refl
   map-out (suc k) q h = marked-other (mapTo g bitmap keys start j k) (keySlot g keys start j k) q (h k (omega arith)) ∙ map-out k q (λ m l. h m (omega arith))
@@ -99,7 +100,7 @@ module _ (g : Ring) (bitmap keys : List ℕ) (start j : ℕ) where
       earlier : keySlot g keys start j m ≢ keySlot g keys start j k → m < k
       earlier n = ⊎-elim (λ (e : m ≡ k). absurd (n (ap (keySlot g keys start j) e))) (λ (d : m ≢ k). omega arith) (same-or-not m k)
 
-  map-words : (k : ℕ) → Words bitmap → Words (mapTo g bitmap keys start j k)
+  pub map-words : (k : ℕ) → Words bitmap → Words (mapTo g bitmap keys start j k)
   unfolding mapTo
   map-words zero w = w
   map-words (suc k) w = marked-words (mapTo g bitmap keys start j k) (keySlot g keys start j k) (map-words k w)
@@ -146,10 +147,22 @@ module _ {i : Input} {marked : List ℕ} {first b : ℕ} {bitmap work : List ℕ
         rw (slots-at (ringIn i) (startOf i b) (rowOf i b r) j k lk)
         (not-T (elem (keySlot (ringIn i) (rowOf i b r) (startOf i b) j k) marked) (λ t. omega (arith, u k lk, ring-bit k lk, ind-true (elem (keySlot (ringIn i) (rowOf i b r) (startOf i b) j k) marked) t)))))
 
-    pub free-unused : T (allFree marked (slotsOf i b (seedAt i r j))) → Unused (ringIn i) work (startOf i b) (rowOf i b r) j
-    free-unused t m l =
+    slot-out : T (allFree marked (slotsOf i b (seedAt i r j))) → (m : ℕ) → m < length (rowOf i b r) → T (not (elem (keySlot (ringIn i) (rowOf i b r) (startOf i b) j m) marked))
+    slot-out t m l =
         let f = free-at marked (slotsAt (ringIn i) (startOf i b) (rowOf i b r) j) (rw slots-are t) m (rw (length-slots (ringIn i) (startOf i b) (rowOf i b r) j) l) in
-        ring-bit m l ∙ ind-false (elem (keySlot (ringIn i) (rowOf i b r) (startOf i b) j m) marked) (rw (slots-at (ringIn i) (startOf i b) (rowOf i b r) j m l) at f)
+        rw (slots-at (ringIn i) (startOf i b) (rowOf i b r) j m l) at f
+
+    pub free-unused : T (allFree marked (slotsOf i b (seedAt i r j))) → Unused (ringIn i) work (startOf i b) (rowOf i b r) j
+    free-unused t m l = ring-bit m l ∙ ind-false (elem (keySlot (ringIn i) (rowOf i b r) (startOf i b) j m) marked) (slot-out t m l)
+
+    -- in the bitmap too
+    pub free-blank : T (allFree marked (slotsOf i b (seedAt i r j))) → Blank (ringIn i) bitmap (rowOf i b r) (startOf i b) j
+    unfolding levelRing
+    free-blank t = record {
+      near = row-reached;
+      turn = lj;
+      unmarked = λ m l. h .marks .bits (keySlot (ringIn i) (rowOf i b r) (startOf i b) j m) ∙ ind-false (elem (keySlot (ringIn i) (rowOf i b r) (startOf i b) j m) marked) (slot-out t m l);
+    }
 
     bar-none : barBit (ringIn i) r j ≡ 0 → T (unbarred i (at r j))
     unfolding unbarred barred isFirst barBit levelRing

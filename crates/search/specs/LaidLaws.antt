@@ -14,6 +14,7 @@ use Rattle.rules.specs.Geometry as G
 use Rattle.rules.specs.Order.{Input, keysOf}
 use Rattle.rules.proofs.Tests.{of-true}
 use Rattle.rings.specs.declared.Ring.{Ring}
+use Rattle.rings.specs.RingLaws.{n-le}
 use Rattle.rings.specs.Place.{InMap}
 use Rattle.rings.specs.Parts.{part, front-same, part-same}
 use Rattle.rings.specs.CacheLaws.{caches-front}
@@ -23,11 +24,11 @@ use Rattle.best.specs.declared.Best.{Best}
 use Rattle.best.specs.Layouts.{row-le}
 use Rattle.search.specs.Rows.{rowAt, bestRows}
 use Rattle.search.specs.Distinct.{bestDistinct, AllRows}
-use Rattle.search.specs.Settle.{Settled, SeedIs}
+use Rattle.search.specs.Settle.{Settling, Blank, Settled, SeedIs}
 use Rattle.search.specs.Chosen.{twins-seed}
 use Rattle.search.specs.Searching.{Searched}
 use Rattle.search.specs.WorkMap.{Prepared, Laid}
-use Rattle.search.specs.PreparedLaws.{zero-seed, all-rows, row-in, rows-found, rows-zero, rows-placed, distinct-found, distinct-zero, distinct-placed}
+use Rattle.search.specs.PreparedLaws.{zero-seed, all-rows, row-in, row-blank, distinct-free, rows-found, rows-zero, rows-placed, distinct-found, distinct-zero, distinct-placed}
 
 -- ---- the words from mid to to overwritten
 
@@ -97,6 +98,17 @@ module _ {i : Input} {marked : List ℕ} {first b : ℕ} {ring : Ring} {layouts 
   pub laid-map : (r : ℕ) → r < layouts → (j : ℕ) → InMap ring (rowAt work at (length keys) r) start j (length bitmap)
   laid-map r lr j = rw (d .level, d .hashes, d .begin) (row-in (d .prepared) r (rw (d .all) at lr) j)
 
+  pub laid-settling : (r j : ℕ) → r < layouts → j < ring .n → Settling ring work (at + r * length keys) (length keys) start j bitmap
+  laid-settling r j lr lj = let k = laid-rows .keys r lr in record {
+    shape = k .shape;
+    above = k .above;
+    room = k .room;
+    keys = k .keys;
+    begin = k .begin;
+    small = omega (arith, n-le ring (k .shape));
+    inside = laid-map r lr j;
+  }
+
   pub laid-few : layouts ≤ 64
   unfolding G.layouts
   laid-few =
@@ -117,6 +129,11 @@ module _ {i : Input} {marked : List ℕ} {first b : ℕ} {ring : Ring} {layouts 
     unfolding levelRing
     best-in n = let g = rows-found (d .prepared) rows-are n in rw (d .level, d .all) (g .layout, g .turn)
 
+    pub best-blank : f .cost ≢ 2 ^ 64 - 1 → Blank ring bitmap (rowAt work at (length keys) (f .r)) start (f .j)
+    best-blank n =
+        let g = rows-found (d .prepared) rows-are n in
+        rw (d .level, d .hashes, d .begin) (row-blank (d .prepared) (f .r) (g .layout) (f .j) (g .turn) (g .passes))
+
     pub best-zero : (work₀ : List ℕ) → length work ≡ length work₀ → ((k : ℕ) → getD table k 0 < 2 ^ 32) → f .cost ≡ 2 ^ 64 - 1 → Searched i marked first b work₀ 0 bitmap work
     best-zero work₀ el w e = zero-seed (d .prepared .held) work₀ el (rows-zero (d .prepared) rows-are (rw (d .prices) at w) e)
 
@@ -134,6 +151,11 @@ module _ {i : Input} {marked : List ℕ} {first b : ℕ} {ring : Ring} {layouts 
     pub apart-in : f .cost ≢ 2 ^ 64 - 1 → (f .r < layouts) × (f .j < ring .n)
     unfolding levelRing
     apart-in n = let g = distinct-found (d .prepared) apart-are n in rw (d .level, d .all) (g .layout, g .turn)
+
+    pub apart-blank : f .cost ≢ 2 ^ 64 - 1 → Blank ring bitmap (rowAt work at (length keys) (f .r)) start (f .j)
+    apart-blank n =
+        let g = distinct-found (d .prepared) apart-are n in
+        rw (d .level, d .hashes, d .begin) (row-blank (d .prepared) (f .r) (g .layout) (f .j) (g .turn) (distinct-free (d .prepared) apart-are (f .r) (f .j) (g .passes)))
 
     pub apart-zero : (work₀ : List ℕ) → length work ≡ length work₀ → ((k : ℕ) → getD table k 0 < 2 ^ 32) → f .cost ≡ 2 ^ 64 - 1 → Searched i marked first b work₀ 0 bitmap work
     apart-zero work₀ el w e = zero-seed (d .prepared .held) work₀ el (distinct-zero (d .prepared) apart-are (rw (d .prices) at w) e)

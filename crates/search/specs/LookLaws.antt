@@ -1,22 +1,26 @@
 -- The filled free words are what the look for the best free rotation asks for, and with the best that it finds among them they are what it promises.
 -- Assumes nothing.
 use mathlib.Core.Path.{_≡_, sym, ap, _∙_}
+use mathlib.Core.Logic.{⊎-elim}
 use mathlib.Core.Bool.{Bool, not}
 use mathlib.Core.List.{List}
-use Prim.Native.Nat.{ℕ, zero, suc, _+_, _-_, _*_, _/_, _≤_, _<_}
+use Prim.Native.Nat.{ℕ, zero, suc, _+_, _-_, _*_, _/_, _^_, _≤_, _<_}
 use native.Mathlib.Omega.{arith}
 use lib.Dec.{T, eqb}
 use lib.ListN.{length, take, drop}
 use lib.Seq.{getD-drop}
+use Rattle.words.specs.Cases.{lt-or-ge}
 use Rattle.words.specs.Map.{Words, slot, tally}
 use Rattle.words.specs.MapLaws.{slot-drop, slot-part}
 use Rattle.words.specs.TallyLaws.{tally-ones, tally-free}
+use Rattle.integers.specs.Division.{pow-split}
+use Rattle.integers.specs.Shifts.{pow-le-cancel}
 use Rattle.rings.specs.declared.Ring.{Ring}
 use Rattle.rings.specs.Ring.{Shape}
 use Rattle.rings.specs.Keys.{costAt, freeAt}
 use Rattle.rings.specs.Free.{FilledTo}
 use Rattle.rings.specs.FilledLaws.{whole-words}
-use Rattle.rings.specs.Parts.{part, length-part, part-range, front-same}
+use Rattle.rings.specs.Parts.{part, length-part, front-same}
 use Rattle.best.specs.declared.Best.{Best}
 use Rattle.best.specs.Best.{nothing, bestFrom, bestOf}
 use Rattle.best.specs.BestLaws.{from-fails, of-none, of-more}
@@ -24,7 +28,9 @@ use Rattle.best.specs.Prices.{isFree, costIn, freeIn, bestFree, Ended, EndedAll
 use Rattle.best.specs.Kept.{Kept, kept-part}
 use Rattle.best.specs.Layouts.{row-le, part-part, ended-layout}
 use Rattle.best.specs.Filled.{filled-keys, filled-free, filled-ended}
-use Rattle.search.specs.Rows.{rowAt, bestRows, FreeWords, Looking, Looked}
+use Rattle.best.specs.Flat.{Power}
+use Rattle.best.specs.Looking.{Looking}
+use Rattle.search.specs.Rows.{rowAt, bestRows, FreeWords, Looked}
 
 -- ---- free words
 
@@ -33,6 +39,19 @@ free-one-word n p h = record { whole = omega arith; short = omega arith; some = 
 
 pub free-more-words : (g : Ring) → Shape g → 64 ≤ g .n → FreeWords (g .n) (g .n / 64)
 free-more-words g s h = let e = whole-words g s h in record { whole = omega arith; short = omega arith; some = omega arith }
+
+-- n is a power of two, and so are they
+free-power : (g : Ring) {count : ℕ} → Shape g → FreeWords (g .n) count → Power count
+free-power g {count} s w = ⊎-elim few many (lt-or-ge (g .n) 64)
+  where
+    few : g .n < 64 → Power count
+    few h = record { e = 0; is = omega (arith, w .short, w .some) }
+
+    many : 64 ≤ g .n → Power count
+    many h =
+        let six : 6 ≤ s .k = pow-le-cancel (rw (s .ring) at h) in
+        let n : g .n ≡ 2 ^ (s .k - 6) * 64 = s .ring ∙ pow-split (s .k) 6 six in
+        record { e = s .k - 6; is = omega (arith, n, w .whole, w .short) }
 
 -- ---- the best of costs and tests that are the same, and of tests that all fail
 
@@ -56,17 +75,6 @@ of-fails cost test n (suc r) h =
 -- ---- what is asked for
 
 module _ {g : Ring} {table work : List ℕ} {at size to count layouts total : ℕ} (k : Looking g table work at size to count layouts total) where
-  -- the two parts of the code
-  pub parts-known : Prices g table (take (at + layouts * size - at) (drop at work)) × (((length (take (at + layouts * size - at) (drop at work)) ≡ layouts * size) × (length (take (to + layouts * count - to) (drop to work)) ≡ layouts * count)) × EndedAll (g .n) (take (to + layouts * count - to) (drop to work)) count layouts)
-  parts-known =
-      rw (part-range work at (layouts * size), part-range work to (layouts * count)) (
-        k .prices,
-        (
-          (length-part work at (layouts * size) (omega (arith, k .below, k .room)), length-part work to (layouts * count) (omega (arith, k .room))),
-          k .ended,
-        ),
-      )
-
   -- no word has a one: no rotation is free
   pub none-best : Words work → total ≡ 0 → nothing ≡ bestFree g table (part work at (layouts * size)) size (part work to (layouts * count)) count layouts
   unfolding bestFree freeIn isFree
@@ -92,14 +100,17 @@ module _ {g : Ring} {l : List ℕ} {at size start to count layouts total : ℕ} 
   ended-all : EndedAll (g .n) (part now to (layouts * count)) count layouts
   ended-all = filled-ended f s (omega arith) (words .whole) (words .short)
 
-  pub looking : {table : List ℕ} → Prices g table (part l at (layouts * size)) → Looking g table now at size to count layouts total
-  looking p = record {
+  pub looking : {table : List ℕ} → Prices g table (part l at (layouts * size)) → layouts ≤ 64 → to + 3 * (layouts * count) ≤ length l → Looking g table now at size to count layouts total
+  looking p few list = record {
     shape = s;
     prices = rw (filled-keys f keys) p;
     ended = ended-all;
+    power = free-power g s words;
+    few = few;
     sum = f .sum;
     below = keys;
     room = rw (f .len) room;
+    list = rw (f .len) list;
   }
 
   -- a row of the free words, and a row of all of them

@@ -37,12 +37,12 @@ use Rattle.search.specs.Slots.{slotsAt, Unused}
 use Rattle.search.specs.SlotLaws.{fresh-distinct, met-twice}
 use Rattle.search.specs.Rows.{rowAt, bestRows}
 use Rattle.search.specs.Distinct.{isDistinct, bestDistinct, KeyRow, FreeRow, AllRows}
-use Rattle.search.specs.Settle.{Settled, SeedIs}
+use Rattle.search.specs.Settle.{Blank, Settled, SeedIs}
 use Rattle.search.specs.Candidates.{ringIn, startOf, rowOf, at, seedAt}
 use Rattle.search.specs.Chosen.{found-seed, none-seed}
 use Rattle.search.specs.Searching.{Held, Searched}
 use Rattle.search.specs.WorkMap.{Prepared}
-use Rattle.search.specs.HeldLaws.{row-length, row-reached, row-in-map, slots-are, free-unused, marks-after, caches-after}
+use Rattle.search.specs.HeldLaws.{row-length, row-reached, row-in-map, slots-are, free-unused, free-blank, marks-after, caches-after}
 
 -- a seed that is not 0 takes its slots
 takes-some : (i : Input) (b v : ℕ) → 0 < v → takes i b v ≡ slotsOf i b v
@@ -134,6 +134,9 @@ module _ {i : Input} {marked : List ℕ} {first b : ℕ} {bitmap work : List ℕ
 
       pub row-unused : T (isFree (rowAt work to count r) j) → Unused (ringIn i) work (startOf i b) (rowAt work at' (length (keysOf i b)) r) j
       row-unused t = rw (p .keys r lr) (free-unused (p .held) r lr j lj (free-slots t))
+
+      pub row-blank : T (isFree (rowAt work to count r) j) → Blank (ringIn i) bitmap (rowAt work at' (length (keysOf i b)) r) (startOf i b) j
+      row-blank t = rw (p .keys r lr) (free-blank (p .held) r lr j lj (free-slots t))
 
       pub row-slots : slotsAt (ringIn i) (startOf i b) (rowAt work at' (length (keysOf i b)) r) j ≡ slotsOf i b (seedAt i r j)
       row-slots = rw (p .keys r lr) (slots-are (p .held) r lr j lj)
@@ -241,7 +244,7 @@ module _ {i : Input} {marked : List ℕ} {first b : ℕ} {bitmap work : List ℕ
         and-both (isFree (rowAt work to count r) j) (distinct (slotsAt (ringIn i) (startOf i b) (rowAt work at' (length (keysOf i b)) r) j))
         (fits-open r lr j lj u t) (rw (row-slots r lr j lj) (fits-distinct i marked b (seedAt i r j) t))
 
-    distinct-free : (r j : ℕ) → T (isDistinct (ringIn i) (startOf i b) (rowAt work at' (length (keysOf i b)) r) (rowAt work to count r) j) → T (isFree (rowAt work to count r) j)
+    pub distinct-free : (r j : ℕ) → T (isDistinct (ringIn i) (startOf i b) (rowAt work at' (length (keysOf i b)) r) (rowAt work to count r) j) → T (isFree (rowAt work to count r) j)
     unfolding isDistinct
     distinct-free r j t = and-left (isFree (rowAt work to count r) j) (distinct (slotsAt (ringIn i) (startOf i b) (rowAt work at' (length (keysOf i b)) r) j)) t
 

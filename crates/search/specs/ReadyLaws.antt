@@ -27,7 +27,8 @@ use Rattle.best.specs.Layouts.{row-le}
 use Rattle.ring_keys.specs.RingKey.{Bucket, KeysFilled}
 use Rattle.ring_keys.specs.LayoutLaws.{homes-of, entries-few}
 use Rattle.ring_keys.specs.FilledLaws.{filled-part, filled-priced}
-use Rattle.search.specs.Rows.{FreeWords, Looking, Looked}
+use Rattle.best.specs.Looking.{Looking}
+use Rattle.search.specs.Rows.{FreeWords, Looked}
 use Rattle.search.specs.LookLaws.{looking, looked}
 use Rattle.ring_keys.specs.Gathered.{Gathered}
 use Rattle.search.specs.Preparing.{Preparing, gathered-free}
@@ -66,15 +67,20 @@ module _ {i : Input} {marked : List ℕ} {first : ℕ} {g : Geometry} {ring : Ri
   pub keys-fit : ring .words + g .layouts * length keys ≤ ring .words + z * g .layouts
   keys-fit = omega (arith, mul-le-mul-left (g .layouts) (q .few))
 
-  -- and all of it in W
-  pub map-fits : (count : ℕ) → FreeWords (ring .n) count → ring .words + z * (g .layouts + 2) + g .layouts * count + count ≤ length work
+  -- and all of it in W, with a list of the free words behind them
+  pub list-fits : (count : ℕ) → FreeWords (ring .n) count → ring .words + z * (g .layouts + 2) + 3 * (g .layouts * count) ≤ length work
   unfolding G.workWords levelRing
-  map-fits count f =
+  list-fits count f =
       let n : ring .n ≡ G.ringLen (i .settings) = ap (λ (x : Ring). x .n) (q .level) in
       let w : ring .words ≡ G.ringSlots (i .settings) / 64 = ap (λ (x : Ring). x .words) (q .level) in
       let c : count ≤ max (G.ringLen (i .settings)) 64 = omega (arith, f .short) in
-      let p : 1 ≤ G.layouts (i .settings) = layouts-pos (i .settings) in
-      rw ready-layouts (omega (arith, q .room, mul-le-mul-left (G.layouts (i .settings)) c, mul-le-mul-left count p))
+      rw ready-layouts (omega (arith, q .room, mul-le-mul-left (G.layouts (i .settings)) c))
+
+  -- or a layout's wrap points
+  pub map-fits : (count : ℕ) → FreeWords (ring .n) count → ring .words + z * (g .layouts + 2) + g .layouts * count + count ≤ length work
+  map-fits count f =
+      let p : 1 ≤ g .layouts = rw ready-layouts (layouts-pos (i .settings)) in
+      omega (arith, list-fits count f, mul-le-mul-left count p)
 
 -- ---- the keys filled in, from `at` on
 
@@ -202,7 +208,7 @@ module _ {i : Input} {marked : List ℕ} {first : ℕ} {g : Geometry} {ring : Ri
     code-end = omega (arith, keys-fit q)
 
     pub code-looking : Looking ring table now (ring .words) (length keys) (ring .words + z * (g .layouts + 2)) count (g .layouts) total
-    code-looking = looking (ready-shape q) code-free w code-end code-room (filled-prices q es (omega arith) keys-room (k .keys))
+    code-looking = looking (ready-shape q) code-free w code-end code-room (filled-prices q es (omega arith) keys-room (k .keys)) (layouts-few q) (rw (k .keys .len) (list-fits q count w))
 
     -- the best free rotation found
     pub code-laid : {f : Best} {after : List ℕ}

@@ -4,15 +4,13 @@ use mathlib.Core.Path.{_≡_}
 use mathlib.Core.List.{List}
 use Prim.Native.Nat.{ℕ, _+_, _*_, _≤_, _<_}
 use lib.Dec.{eqb}
-use lib.ListN.{length, take, drop}
-use Rattle.words.specs.Map.{onesTo}
+use lib.ListN.{length, take}
 use Rattle.rings.specs.declared.Ring.{Ring}
-use Rattle.rings.specs.Ring.{Shape}
 use Rattle.rings.specs.Keys.{costAt, freeAt}
 use Rattle.rings.specs.Parts.{part}
 use Rattle.best.specs.declared.Best.{Best}
 use Rattle.best.specs.Best.{bestOf}
-use Rattle.best.specs.Prices.{Prices, isFree, Ended, EndedAll}
+use Rattle.best.specs.Prices.{isFree, Ended}
 
 -- layout r's keys or free words
 abbrev pub rowAt : (work : List ℕ) (at size r : ℕ) → List ℕ
@@ -28,15 +26,6 @@ pub record FreeWords (n count : ℕ) : Type 0 where
   pub whole : n ≤ 64 * count
   pub short : 64 * count < n + 64
   pub some : 1 ≤ count
-
--- what the look for the best free rotation asks for: keys that have prices, free words that end with rotation n - 1, the number of their ones, and room behind them
-pub record Looking (g : Ring) (table work : List ℕ) (at size to count layouts total : ℕ) : Type 0 where
-  pub shape : Shape g
-  pub prices : Prices g table (part work at (layouts * size))
-  pub ended : EndedAll (g .n) (part work to (layouts * count)) count layouts
-  pub sum : total ≡ onesTo (drop to work) (layouts * count)
-  pub below : at + layouts * size ≤ to
-  pub room : to + layouts * count + count ≤ length work
 
 -- the look for the best free rotation: what is below `to` stays, the free words from there on tell which rotations are free, and the best of these is found
 pub record Looked (g : Ring) (table l : List ℕ) (at size start to count layouts : ℕ) (b : Best) (now : List ℕ) : Type 0 where

@@ -5,7 +5,7 @@
 //   at = slots / 64       ring keys, layout after layout: room for z L
 //   mid = at + z L        hashes to sort: room for 2 z
 //   to = at + z (L + 2)   free words, layout after layout: L count
-//   to + L count          wrap points of one layout: count
+//   to + L count          the free words that are not 0, listed with their numbers: 2 L count; or the wrap points of one layout: count
 // All of it lies within W = slots / 32 + z (L + 2) + 3 L max(n, 64) + 2,560.
 ghost use Rattle.search.specs.Searching.{Searching, SeedFound};
 ghost use Rattle.search.specs.WorkMap.{Retrying, Retried};

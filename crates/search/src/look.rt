@@ -5,7 +5,8 @@ ghost use Rattle.rings.specs.Ring.{Shape};
 ghost use Rattle.rings.specs.Parts.{part};
 ghost use Rattle.best.specs.Prices.{bestFree};
 ghost use Rattle.best.specs.Kept.{Kept};
-ghost use Rattle.search.specs.Rows.{FreeWords, Looking};
+ghost use Rattle.best.specs.Looking.{Looking};
+ghost use Rattle.search.specs.Rows.{FreeWords};
 use best::Best;
 use best::all::best_all;
 use best::many::best_many;
@@ -23,8 +24,8 @@ pub fn free_words(g: Ring) -> usize
     n / 64
 }
 
-// The best free rotation. Layout r has the `size` keys at work[at + r size..] and the `count` free words at work[to + r count..]; the `count` words behind the
-// last of these are scratch, and `total` rotations are free. Where these are few all of them are priced, else the first free one of each segment between wrap
+// The best free rotation. Layout r has the `size` keys at work[at + r size..] and the `count` free words at work[to + r count..]; the words behind the last of
+// these are scratch, and `total` rotations are free. Where these are few all of them are priced, else the first free one of each segment between wrap
 // points.
 pub fn best_free(
     g: Ring,
@@ -47,19 +48,9 @@ pub fn best_free(
             j: 0,
         };
     }
-    let keys = layouts * size;
-    let bits = layouts * count;
     if total <= 32 {
-        let v = &work[..];
-        return best_all(
-            g,
-            table,
-            &v[at..at + keys],
-            size,
-            &v[to..to + bits],
-            count,
-            layouts,
-        );
+        return best_all(g, table, work, at, size, to, count, layouts, total);
     }
-    best_many(g, table, work, at, size, to, count, to + bits, layouts)
+    let up = to + layouts * count;
+    best_many(g, table, work, at, size, to, count, up, layouts)
 }

@@ -1,14 +1,84 @@
 // The rotation that a bucket gets: its slots marked, and its seed.
-ghost use Prim.Native.Nat.{_+_, _^_, _<_, _≤_};
-ghost use lib.ListN.{length};
-ghost use Rattle.rings.specs.Ring.{Shape};
-ghost use Rattle.rings.specs.Keys.{Keys};
+ghost use mathlib.Core.Path.{_≡_};
+ghost use Prim.Native.Nat.{_<_, _≤_};
 ghost use Rattle.rings.specs.Parts.{part};
-ghost use Rattle.rings.specs.Place.{InMap};
-ghost use Rattle.search.specs.Settle.{Settled, SeedIs};
+ghost use Rattle.rings.specs.Place.{unmarkedTo};
+ghost use Rattle.search.specs.Settle.{Settling, MarkedBoth, Blank, Settled, SeedIs, clearedTo};
+use crate::usual::literal_ring;
+use crate::usual::usual_ring;
 use rings::Ring;
-use rings::place::mark_bitmap;
-use rings::place::place;
+use rings::keys::slot_of;
+use rings::marks::take_slot;
+use rings::marks::unmark;
+
+// Marks the slots of the keys work[a..a + size] at rotation j, in the ring and in the bitmap, one after the other, up to one that is marked already; tells how
+// many.
+fn mark_both(
+    g: Ring,
+    work: &mut [u64],
+    a: usize,
+    size: usize,
+    start: usize,
+    j: usize,
+    bitmap: &mut [u64],
+) -> usize
+    requires { ⌜ Settling g (now work) a size start j (now bitmap) ⌝ }
+    ensures { λ r. ⌜ MarkedBoth g (now (work .entry)) (now (bitmap .entry)) (part (now (work .entry)) a size) start j size r (now (work .exit)) (now (bitmap .exit)) ⌝ }
+{
+    let mut i = 0;
+    while i < size {
+        let p = slot_of(g, work[a + i], j, start);
+        if !take_slot(g, work, p) {
+            return i;
+        }
+        words::set_bit(bitmap, p);
+        i += 1;
+    }
+    i
+}
+
+// The same; the default shape's numbers are literals.
+fn mark_slots(
+    g: Ring,
+    work: &mut [u64],
+    a: usize,
+    size: usize,
+    start: usize,
+    j: usize,
+    bitmap: &mut [u64],
+) -> usize
+    requires { ⌜ Settling g (now work) a size start j (now bitmap) ⌝ }
+    ensures { λ r. ⌜ MarkedBoth g (now (work .entry)) (now (bitmap .entry)) (part (now (work .entry)) a size) start j size r (now (work .exit)) (now (bitmap .exit)) ⌝ }
+{
+    if usual_ring(g) {
+        return mark_both(literal_ring(g), work, a, size, start, j, bitmap);
+    }
+    mark_both(g, work, a, size, start, j, bitmap)
+}
+
+// Unmarks the slots of the first `count` of these keys, from the last to the first.
+fn unmark_both(
+    g: Ring,
+    work: &mut [u64],
+    a: usize,
+    size: usize,
+    start: usize,
+    j: usize,
+    count: usize,
+    bitmap: &mut [u64],
+)
+    requires { ⌜ Settling g (now work) a size start j (now bitmap) ⌝ }
+    requires { ⌜ count ≤ size ⌝ }
+    ensures { λ _. ⌜ (now (work .exit) ≡ unmarkedTo g (now (work .entry)) (part (now (work .entry)) a size) start j count) × (now (bitmap .exit) ≡ clearedTo g (now (bitmap .entry)) (part (now (work .entry)) a size) start j count) ⌝ }
+{
+    let mut i = count;
+    while 0 < i {
+        i -= 1;
+        let p = slot_of(g, work[a + i], j, start);
+        unmark(g, work, p);
+        words::clear_bit(bitmap, p);
+    }
+}
 
 // Marks the slots of the keys work[a..a + size] at rotation j, in the ring and in the bitmap, and tells that it did; where two keys meet nothing changes.
 pub fn settle(
@@ -20,17 +90,15 @@ pub fn settle(
     j: usize,
     bitmap: &mut [u64],
 ) -> bool
-    requires { ⌜ Shape g ⌝ }
-    requires { ⌜ (g .words ≤ a) × (a + size ≤ length (now work)) ⌝ }
-    requires { ⌜ Keys (part (now work) a size) start ⌝ }
-    requires { ⌜ (start < 2 ^ 62) × (j < 65536) ⌝ }
-    requires { ⌜ InMap g (part (now work) a size) start j (length (now bitmap)) ⌝ }
+    requires { ⌜ Settling g (now work) a size start j (now bitmap) ⌝ }
+    requires { ⌜ Blank g (now bitmap) (part (now work) a size) start j ⌝ }
     ensures { λ r. ⌜ Settled g (now (work .entry)) (now (bitmap .entry)) (part (now (work .entry)) a size) start j size r (now (work .exit)) (now (bitmap .exit)) ⌝ }
 {
-    if place(g, work, a, size, start, j) {
-        mark_bitmap(g, &work[a..a + size], start, j, bitmap);
+    let k = mark_slots(g, work, a, size, start, j, bitmap);
+    if k == size {
         return true;
     }
+    unmark_both(g, work, a, size, start, j, k, bitmap);
     false
 }
 

@@ -22,6 +22,22 @@ pub fn usual(g: Geometry) -> bool
     true
 }
 
+// The same of a ring alone.
+pub fn usual_ring(ring: Ring) -> bool
+    ensures { λ r. ⌜ (r ≡ true → UsualRing ring) ⌝ }
+{
+    if ring.n != 64 {
+        return false;
+    }
+    if ring.t != 4 {
+        return false;
+    }
+    if ring.rotations != 64 {
+        return false;
+    }
+    true
+}
+
 // The same geometry, in which the numbers of the default shape are literals.
 pub fn literal(g: Geometry) -> Geometry
     requires { ⌜ Made g ⌝ }

@@ -11,6 +11,7 @@ use lib.IntN as Int
 use lib.ListN.{length, getD, replicate}
 use Rattle.rules.specs.Lists.{below, every, count}
 use Rattle.rules.specs.Order.{Input, byLowBits, keysOf}
+use Rattle.rules.specs.Chunks.{inOne}
 use Rattle.rules.specs.Numbers.{Lent}
 use Rattle.rules.specs.Answers.{Answer, Refusal, sweepNumber, sweepAnswer, sweepSeeds}
 use Rattle.rules.proofs.Tests.{or-cases, and-left, and-right}
@@ -61,29 +62,29 @@ pages-differ : DifferIn 256 blank scanned
 unfolding blank scanned pages hashIn table runs
 pages-differ = record { settings-same = refl; weights-same = refl; table-same = refl; keys-same = differ-by 256 blank scanned tt }
 
-pages-pass : (sweepNumber blank (lentFor blank) ≡ 0) × (sweepNumber scanned (lentFor scanned) ≡ 0)
+pages-pass : (sweepNumber (inOne true) blank (lentFor blank) ≡ 0) × (sweepNumber (inOne true) scanned (lentFor scanned) ≡ 0)
 unfolding blank scanned pages hashIn table runs
 pages-pass = (refl, refl)
 
 -- the seed of bucket 0 is the same in both, as the theorem says
 pub early-here : (seeds seeds' : List ℕ)
-    → getD (sweepSeeds byLowBits true blank (lentFor blank) seeds) 0 0 ≡ getD (sweepSeeds byLowBits true scanned (lentFor scanned) seeds') 0 0
+    → getD (sweepSeeds byLowBits (inOne true) blank (lentFor blank) seeds) 0 0 ≡ getD (sweepSeeds byLowBits (inOne true) scanned (lentFor scanned) seeds') 0 0
 early-here seeds seeds' =
     early-pages byLowBits blank scanned (lentFor blank) (lentFor scanned) 256 pages-differ (pages-pass .0) (pages-pass .1) seeds seeds' 0 (omega arith)
 
 -- it is no bumped bucket's: bucket 0 has the seed 2
-early-two : getD (sweepSeeds byLowBits true scanned (lentFor scanned) []) 0 0 ≡ 2
+early-two : getD (sweepSeeds byLowBits (inOne true) scanned (lentFor scanned) []) 0 0 ≡ 2
 unfolding scanned pages hashIn table runs
 early-two = refl
 
 -- bucket 1, which is b - 255, has another: the two keys took its slot
-next-moves : (getD (sweepSeeds byLowBits true blank (lentFor blank) []) 1 0 ≡ 1) × (getD (sweepSeeds byLowBits true scanned (lentFor scanned) []) 1 0 ≡ 0)
+next-moves : (getD (sweepSeeds byLowBits (inOne true) blank (lentFor blank) []) 1 0 ≡ 1) × (getD (sweepSeeds byLowBits (inOne true) scanned (lentFor scanned) []) 1 0 ≡ 0)
 unfolding blank scanned pages hashIn table runs
 next-moves = (refl, refl)
 
 -- so the bound is exact: with one bucket less the theorem is false
-pub early-exact : ((i j : Input) (lent lent' : Lent) (b : ℕ) → DifferIn b i j → sweepNumber i lent ≡ 0 → sweepNumber j lent' ≡ 0
-    → (x : ℕ) → x + 254 < b → getD (sweepSeeds byLowBits true i lent []) x 0 ≡ getD (sweepSeeds byLowBits true j lent' []) x 0) → ⊥
+pub early-exact : ((i j : Input) (lent lent' : Lent) (b : ℕ) → DifferIn b i j → sweepNumber (inOne true) i lent ≡ 0 → sweepNumber (inOne true) j lent' ≡ 0
+    → (x : ℕ) → x + 254 < b → getD (sweepSeeds byLowBits (inOne true) i lent []) x 0 ≡ getD (sweepSeeds byLowBits (inOne true) j lent' []) x 0) → ⊥
 early-exact h =
     let e = h blank scanned (lentFor blank) (lentFor scanned) 256 pages-differ (pages-pass .0) (pages-pass .1) 1 (omega arith) in
     let z : _≡_ {A = ℕ} 1 0 = sym (next-moves .0) ∙ e ∙ next-moves .1 in
@@ -112,11 +113,11 @@ exchanged-reordered : Reordered (listing 2048) exchanged
 unfolding exchanged listing
 exchanged-reordered = record { settings-same = refl; weights-same = refl; table-same = refl; begins-same = refl; as-many = refl; keys-same = exchanged-keys }
 
-pub exchanged-unmoved : Unmoved byLowBits true (listing 2048) exchanged (lentFor (listing 2048))
+pub exchanged-unmoved : Unmoved byLowBits (inOne true) (listing 2048) exchanged (lentFor (listing 2048))
 unfolding exchanged listing
-exchanged-unmoved = reordered byLowBits true (listing 2048) exchanged (lentFor (listing 2048)) exchanged-reordered
+exchanged-unmoved = reordered byLowBits (inOne true) (listing 2048) exchanged (lentFor (listing 2048)) exchanged-reordered
 
-exchanged-answer : sweepAnswer byLowBits true exchanged (lentFor (listing 2048)) ≡ Answer (3 ∷ 0 ∷ 1 ∷ [])
+exchanged-answer : sweepAnswer byLowBits (inOne true) exchanged (lentFor (listing 2048)) ≡ Answer (3 ∷ 0 ∷ 1 ∷ [])
 unfolding exchanged listing table runs
 exchanged-answer = refl
 
@@ -133,10 +134,10 @@ twice-reordered : Reordered (twiceApart (0 ∷ 0 ∷ 2 ^ 62 ∷ [])) (twiceApart
 unfolding twiceApart small
 twice-reordered = record { settings-same = refl; weights-same = refl; table-same = refl; begins-same = refl; as-many = refl; keys-same = twice-keys }
 
-pub twice-unmoved : Unmoved byLowBits false (twiceApart (0 ∷ 0 ∷ 2 ^ 62 ∷ [])) (twiceApart (0 ∷ 2 ^ 62 ∷ 0 ∷ [])) (lentFor (twiceApart (0 ∷ 0 ∷ 2 ^ 62 ∷ [])))
+pub twice-unmoved : Unmoved byLowBits (inOne false) (twiceApart (0 ∷ 0 ∷ 2 ^ 62 ∷ [])) (twiceApart (0 ∷ 2 ^ 62 ∷ 0 ∷ [])) (lentFor (twiceApart (0 ∷ 0 ∷ 2 ^ 62 ∷ [])))
 unfolding twiceApart small
-twice-unmoved = reordered byLowBits false (twiceApart (0 ∷ 0 ∷ 2 ^ 62 ∷ [])) (twiceApart (0 ∷ 2 ^ 62 ∷ 0 ∷ [])) (lentFor (twiceApart (0 ∷ 0 ∷ 2 ^ 62 ∷ []))) twice-reordered
+twice-unmoved = reordered byLowBits (inOne false) (twiceApart (0 ∷ 0 ∷ 2 ^ 62 ∷ [])) (twiceApart (0 ∷ 2 ^ 62 ∷ 0 ∷ [])) (lentFor (twiceApart (0 ∷ 0 ∷ 2 ^ 62 ∷ []))) twice-reordered
 
-twice-answer : sweepAnswer byLowBits false (twiceApart (0 ∷ 2 ^ 62 ∷ 0 ∷ [])) (lentFor (twiceApart (0 ∷ 0 ∷ 2 ^ 62 ∷ []))) ≡ Refusal 14 (0 ∷ [])
+twice-answer : sweepAnswer byLowBits (inOne false) (twiceApart (0 ∷ 2 ^ 62 ∷ 0 ∷ [])) (lentFor (twiceApart (0 ∷ 0 ∷ 2 ^ 62 ∷ []))) ≡ Refusal 14 (0 ∷ [])
 unfolding twiceApart small table runs
 twice-answer = refl

@@ -6,7 +6,9 @@ use Prim.Native.Nat.{ℕ, _+_, _<_}
 use lib.Dec.{T}
 use lib.ListN.{getD}
 use Rattle.rules.specs.declared.SweepRecord.{SweepRecord}
+use Rattle.rules.specs.declared.How.{How}
 use Rattle.rules.specs.Order.{Input}
+use Rattle.rules.specs.Chunks.{chunkCount}
 use Rattle.rules.specs.Holes.{holesOf}
 use Rattle.rules.specs.Numbers.{Lent}
 use Rattle.rules.specs.Answers.{Said, Answer, Refusal, saidSweep}
@@ -20,7 +22,7 @@ isAnswer (Refusal number named) = false
 unfoldable pub accepted : SweepRecord → Bool
 accepted r = isAnswer (saidSweep r)
 
--- the sweep got past the checks 1 to 13: it is done, or stopped at a bucket that it names (14)
+-- the sweep got past the checks: it is done, or stopped at a bucket that it names (14)
 unfoldable pub isRun : Said → Bool
 isRun (Answer values) = true
 isRun (Refusal number []) = false
@@ -36,12 +38,12 @@ pub record SameLevel (m : ℕ) (r r' : SweepRecord) (seeds seeds' bitmap bitmap'
   pub bitmap-same : bitmap ≡ bitmap'
   pub holes-same : holesOf m bitmap ≡ holesOf m bitmap'
 
-module _ (i j : Input) (r r' : SweepRecord) where
-  -- early pages stay put: both accepted, groups that differ only in bucket b, then all buckets numbered below b - 255 have the same seeds
-  abbrev pub EarlyStay : (seeds seeds' : List ℕ) → Type 0
-  EarlyStay seeds seeds' = (b : ℕ) → DifferIn b i j → T (accepted r) → T (accepted r') → (x : ℕ) → x + 255 < b → getD seeds x 0 ≡ getD seeds' x 0
+-- early pages stay put: both swept in one chunk and accepted, groups that differ only in bucket b, then all buckets numbered below b - 255 have the same seeds
+abbrev pub EarlyStay : (how : How) (i j : Input) (r r' : SweepRecord) (seeds seeds' : List ℕ) → Type 0
+EarlyStay how i j r r' seeds seeds' = chunkCount (i .settings) (how .chunks) ≡ 1 → (b : ℕ) → DifferIn b i j → T (accepted r) → T (accepted r') → (x : ℕ) → x + 255 < b → getD seeds x 0 ≡ getD seeds' x 0
 
-  -- reordering keys inside buckets changes no seed, bit or hole
+module _ (i j : Input) (r r' : SweepRecord) where
+  -- reordering keys inside buckets changes no seed, bit or hole, in any number of chunks
   abbrev pub OrderFree : (seeds seeds' bitmap bitmap' : List ℕ) → Type 0
   OrderFree seeds seeds' bitmap bitmap' = Reordered i j → T (ran r) → T (ran r') → SameLevel (i .settings .m) r r' seeds seeds' bitmap bitmap'
 

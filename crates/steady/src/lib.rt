@@ -4,6 +4,7 @@ ghost use Rattle.rules.specs.Numbers.{lentOf};
 ghost use Rattle.rules.specs.Order.{inputOf};
 ghost use Rattle.sweep.specs.Performing.{Left};
 ghost use Rattle.steady.specs.Steady.{EarlyStay, OrderFree, RefusedAlike};
+use rules::How;
 use rules::Settings;
 use rules::SweepRecord;
 use sweep::sweep;
@@ -18,7 +19,7 @@ pub struct Both {
 pub fn sweep_both(
     settings: Settings,
     weights: [i64; 7],
-    bump: bool,
+    how: How,
     table: &[u32],
     hashes: &[u64],
     begins: &[u32],
@@ -31,11 +32,11 @@ pub fn sweep_both(
     bitmap2: &mut [u64],
     work2: &mut [u64],
 ) -> Both
-    ensures one { λ r. ⌜ Left (inputOf settings weights (now (hashes .entry)) (now (begins .entry)) (now (table .entry))) bump
+    ensures one { λ r. ⌜ Left (inputOf settings weights (now (hashes .entry)) (now (begins .entry)) (now (table .entry))) how
         (now (seeds .entry)) (now (bitmap .entry)) (now (work .entry)) (r .one) (now (seeds .exit)) (now (bitmap .exit)) (now (work .exit)) ⌝ }
-    ensures other { λ r. ⌜ Left (inputOf settings weights (now (hashes2 .entry)) (now (begins2 .entry)) (now (table .entry))) bump
+    ensures other { λ r. ⌜ Left (inputOf settings weights (now (hashes2 .entry)) (now (begins2 .entry)) (now (table .entry))) how
         (now (seeds2 .entry)) (now (bitmap2 .entry)) (now (work2 .entry)) (r .other) (now (seeds2 .exit)) (now (bitmap2 .exit)) (now (work2 .exit)) ⌝ }
-    ensures early { λ r. ⌜ EarlyStay (inputOf settings weights (now (hashes .entry)) (now (begins .entry)) (now (table .entry)))
+    ensures early { λ r. ⌜ EarlyStay how (inputOf settings weights (now (hashes .entry)) (now (begins .entry)) (now (table .entry)))
         (inputOf settings weights (now (hashes2 .entry)) (now (begins2 .entry)) (now (table .entry)))
         (r .one) (r .other) (now (seeds .exit)) (now (seeds2 .exit)) ⌝ }
     ensures free { λ r. ⌜ OrderFree (inputOf settings weights (now (hashes .entry)) (now (begins .entry)) (now (table .entry)))
@@ -49,7 +50,7 @@ pub fn sweep_both(
     let one = sweep(
         settings,
         weights,
-        bump,
+        how,
         hashes,
         begins,
         table,
@@ -60,7 +61,7 @@ pub fn sweep_both(
     let other = sweep(
         settings,
         weights,
-        bump,
+        how,
         hashes2,
         begins2,
         table,

@@ -2,12 +2,12 @@
 -- `Swept` says holds of the seeds and the bitmap in the caller's hands, and where it answers 14 with a bucket, all that `Stopped` says of the turns up to it.
 -- Assumes nothing.
 use mathlib.Core.Path.{_≡_, refl, sym, ap, _∙_, subst}
-use mathlib.Core.Bool.{Bool, true, false}
 use mathlib.Core.Option.{Option, none, some}
 use mathlib.Core.List.{List, [], _∷_}
 use Prim.Native.Nat.{ℕ, zero, suc}
 use native.Mathlib.Omega.{arith}
 use Rattle.words.specs.Map.{Words}
+use Rattle.rules.specs.declared.How.{How}
 use Rattle.rules.specs.declared.Counts.{Counts}
 use Rattle.rules.specs.declared.Named.the-variants.{Bucket}
 use Rattle.rules.specs.declared.Outcome.the-variants.{Done, Refused}
@@ -34,21 +34,21 @@ named-bucket zero k b (some d) c e = (refl, cc)
 named-bucket (suc n) k b o c e = let z : _≡_ {A = ℕ} 0 1 = cc in absurd (omega arith)
 
 -- what holds of a level that was swept to its end
-pub record Finished (i : Input) (c : Counts) (seeds' bitmap' : List ℕ) : Type 0 where
-  pub swept : Swept byLowBits i
-  pub seeds-are : seeds' ≡ finalSeeds i (sweepTurns byLowBits i)
-  pub bitmap-is : bitmap' ≡ finalBitmap i (sweepTurns byLowBits i)
-  pub counts-are : countValues c ≡ countValues (countsOf i (finalSeeds i (sweepTurns byLowBits i)))
+pub record Finished (chunks : ℕ) (i : Input) (c : Counts) (seeds' bitmap' : List ℕ) : Type 0 where
+  pub swept : Swept byLowBits chunks i
+  pub seeds-are : seeds' ≡ finalSeeds i (sweepTurns byLowBits chunks i)
+  pub bitmap-is : bitmap' ≡ finalBitmap i (sweepTurns byLowBits chunks i)
+  pub counts-are : countValues c ≡ countValues (countsOf i (finalSeeds i (sweepTurns byLowBits chunks i)))
 
-pub finished : {i : Input} {bump : Bool} {seeds bitmap work seeds' bitmap' work' : List ℕ} {c : Counts}
-    → Left i bump seeds bitmap work (record { outcome = Done c }) seeds' bitmap' work' → Words (i .hashes) → Finished i c seeds' bitmap'
+pub finished : {i : Input} {how : How} {seeds bitmap work seeds' bitmap' work' : List ℕ} {c : Counts}
+    → Left i how seeds bitmap work (record { outcome = Done c }) seeds' bitmap' work' → Words (i .hashes) → Finished (how .chunks) i c seeds' bitmap'
 unfolding saidSweep saidOutcome sweepAnswer sweepNumber
-finished {i} {bump} {seeds} {bitmap} {work} {c = c} l w =
-    let n = firstOf (sweepLines i (lentOf seeds bitmap work)) in
-    let r = not-refused n (countValues c) (stopsAt byLowBits bump i) (countsOf i (finalSeeds i (sweepTurns byLowBits i))) (l .answer) in
-    let d = Laws.sweep-done byLowBits bump i (lentOf seeds bitmap work) seeds bitmap work (r .0) (r .1) in
+finished {i} {how} {seeds} {bitmap} {work} {c = c} l w =
+    let n = firstOf (sweepLines how i (lentOf seeds bitmap work)) in
+    let r = not-refused n (countValues c) (stopsAt byLowBits how i) (countsOf i (finalSeeds i (sweepTurns byLowBits (how .chunks) i))) (l .answer) in
+    let d = Laws.sweep-done byLowBits how i (lentOf seeds bitmap work) seeds bitmap work (r .0) (r .1) in
     record {
-      swept = swept-low i (lentOf seeds bitmap work) (r .0) w;
+      swept = swept-low how i (lentOf seeds bitmap work) (r .0) w;
       seeds-are = l .given ∙ d .seeds-are;
       bitmap-is = l .marked ∙ d .bitmap-is;
       counts-are = values (l .answer ∙ d .said-is);
@@ -58,10 +58,10 @@ finished {i} {bump} {seeds} {bitmap} {work} {c = c} l w =
     values e = cc
 
 -- and of one that ended at a bucket that nothing fits, bumping forbidden
-pub halted : {i : Input} {seeds bitmap work seeds' bitmap' work' : List ℕ} {k b : ℕ}
-    → Left i false seeds bitmap work (record { outcome = Refused k (Bucket b) }) seeds' bitmap' work' → Words (i .hashes) → Stopped byLowBits i b
+pub halted : {i : Input} {how : How} {seeds bitmap work seeds' bitmap' work' : List ℕ} {k b : ℕ}
+    → Left i how seeds bitmap work (record { outcome = Refused k (Bucket b) }) seeds' bitmap' work' → Words (i .hashes) → Stopped byLowBits (how .chunks) i b
 unfolding saidSweep saidOutcome namedBy sweepAnswer sweepNumber
-halted {i} {seeds} {bitmap} {work} {k = k} {b = b} l w =
-    let n = firstOf (sweepLines i (lentOf seeds bitmap work)) in
-    let r = named-bucket n k b (stopsAt byLowBits false i) (countsOf i (finalSeeds i (sweepTurns byLowBits i))) (l .answer) in
-    stopped byLowBits i (lentOf seeds bitmap work) (r .0) w b (r .1)
+halted {i} {how} {seeds} {bitmap} {work} {k = k} {b = b} l w =
+    let n = firstOf (sweepLines how i (lentOf seeds bitmap work)) in
+    let r = named-bucket n k b (stopsAt byLowBits how i) (countsOf i (finalSeeds i (sweepTurns byLowBits (how .chunks) i))) (l .answer) in
+    stopped byLowBits how i (lentOf seeds bitmap work) (r .0) w b (r .1)

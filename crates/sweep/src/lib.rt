@@ -7,6 +7,7 @@ ghost use Rattle.rules.specs.Order.{byLowBits, inputOf};
 ghost use Rattle.rules.specs.Answers.{saidSweep, sweepAnswer, sweepSeeds, sweepBitmap, sweepWork};
 ghost use Rattle.sweep.specs.Performing.{Performing, Left};
 
+pub mod chunks;
 pub mod clearing;
 pub mod counting;
 pub mod moving;
@@ -21,6 +22,7 @@ use checks::check_all;
 use geometry::shape::Geometry;
 use geometry::shape::geometry_of;
 use rules::Counts;
+use rules::How;
 use rules::Named;
 use rules::Outcome;
 use rules::Settings;
@@ -46,7 +48,7 @@ fn done(counts: Counts) -> SweepRecord
 fn perform(
     g: Geometry,
     weights: [i64; 7],
-    bump: bool,
+    how: How,
     hashes: &[u64],
     begins: &[u32],
     table: &[u32],
@@ -56,8 +58,8 @@ fn perform(
     bitmap: &mut [u64],
     work: &mut [u64],
 ) -> SweepRecord
-    requires { ⌜ Performing (inputOf (g .settings) weights (now hashes) (now begins) (now table)) g z words (now seeds) (now bitmap) (now work) ⌝ }
-    ensures { λ r. ⌜ Left (inputOf (g .settings) weights (now (hashes .entry)) (now (begins .entry)) (now (table .entry))) bump
+    requires { ⌜ Performing (inputOf (g .settings) weights (now hashes) (now begins) (now table)) how g z words (now seeds) (now bitmap) (now work) ⌝ }
+    ensures { λ r. ⌜ Left (inputOf (g .settings) weights (now (hashes .entry)) (now (begins .entry)) (now (table .entry))) how
         (now (seeds .entry)) (now (bitmap .entry)) (now (work .entry)) r (now (seeds .exit)) (now (bitmap .exit)) (now (work .exit)) ⌝ }
 {
     let size = bitmap.len();
@@ -67,7 +69,7 @@ fn perform(
     let ended = run(
         g,
         weights,
-        bump,
+        how,
         hashes,
         begins,
         table,
@@ -87,11 +89,12 @@ fn perform(
     }
 }
 
-// Gives each bucket in its turn the cheapest seed that fits. It checks 1 to 13 first, and writes nothing where one of them applies.
+// Gives each bucket in its turn the cheapest seed that fits, range after range of the chunks that `how` asks for. It checks 1 to 8, 20 and 9 to 13 first,
+// and writes nothing where one of them applies.
 pub fn sweep(
     settings: Settings,
     weights: [i64; 7],
-    bump: bool,
+    how: How,
     hashes: &[u64],
     begins: &[u32],
     table: &[u32],
@@ -99,18 +102,19 @@ pub fn sweep(
     bitmap: &mut [u64],
     work: &mut [u64],
 ) -> SweepRecord
-    ensures answer { λ r. ⌜ saidSweep r ≡ sweepAnswer byLowBits bump (inputOf settings weights (now (hashes .entry)) (now (begins .entry)) (now (table .entry)))
+    ensures answer { λ r. ⌜ saidSweep r ≡ sweepAnswer byLowBits how (inputOf settings weights (now (hashes .entry)) (now (begins .entry)) (now (table .entry)))
         (lentOf (now (seeds .entry)) (now (bitmap .entry)) (now (work .entry))) ⌝ }
-    ensures given { λ _. ⌜ now (seeds .exit) ≡ sweepSeeds byLowBits bump (inputOf settings weights (now (hashes .entry)) (now (begins .entry)) (now (table .entry)))
+    ensures given { λ _. ⌜ now (seeds .exit) ≡ sweepSeeds byLowBits how (inputOf settings weights (now (hashes .entry)) (now (begins .entry)) (now (table .entry)))
         (lentOf (now (seeds .entry)) (now (bitmap .entry)) (now (work .entry))) (now (seeds .entry)) ⌝ }
-    ensures marked { λ _. ⌜ now (bitmap .exit) ≡ sweepBitmap byLowBits bump (inputOf settings weights (now (hashes .entry)) (now (begins .entry)) (now (table .entry)))
+    ensures marked { λ _. ⌜ now (bitmap .exit) ≡ sweepBitmap byLowBits how (inputOf settings weights (now (hashes .entry)) (now (begins .entry)) (now (table .entry)))
         (lentOf (now (seeds .entry)) (now (bitmap .entry)) (now (work .entry))) (now (bitmap .entry)) ⌝ }
-    ensures worked { λ _. ⌜ now (work .exit) ≡ sweepWork (inputOf settings weights (now (hashes .entry)) (now (begins .entry)) (now (table .entry)))
+    ensures worked { λ _. ⌜ now (work .exit) ≡ sweepWork how (inputOf settings weights (now (hashes .entry)) (now (begins .entry)) (now (table .entry)))
         (lentOf (now (seeds .entry)) (now (bitmap .entry)) (now (work .entry))) (now (work .entry)) ⌝ }
 {
     let v = check_all(
         settings,
         weights,
+        how,
         hashes,
         begins,
         table,
@@ -125,7 +129,7 @@ pub fn sweep(
     perform(
         geometry_of(settings),
         weights,
-        bump,
+        how,
         hashes,
         begins,
         table,

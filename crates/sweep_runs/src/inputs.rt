@@ -1,6 +1,8 @@
-// The numbers 8 to 14.
+// The numbers 8, 20 and 9 to 14.
 ghost use Prim.Native.Nat.{_≤_};
 use super::lending::case;
+use super::lending::in_one;
+use rules::How;
 use rules::Settings;
 
 fn level(buckets: u64) -> Settings {
@@ -18,7 +20,7 @@ fn weighed(weights: [i64; 7]) {
     case(
         level(1),
         weights,
-        true,
+        in_one(true),
         &[0],
         &[0, 1],
         log_table::house(),
@@ -40,12 +42,41 @@ fn weights() {
     weighed([0, 0, 0, -9_223_372_036_854_775_807, 0, 0, 0]);
 }
 
+// 20: no chunk, and as few and as many as there can be; 8 before it, and it before 9.
+fn chunked(chunks: u64, weight: i64, begins: &[u32]) {
+    case(
+        level(1),
+        [weight, 0, 0, 0, 0, 0, 0],
+        How {
+            bump: true,
+            chunks: chunks,
+        },
+        &[0],
+        begins,
+        log_table::house(),
+        2048,
+        1,
+        1,
+        2883,
+    );
+}
+
+fn chunks() {
+    chunked(0, 0, &[0, 1]);
+    chunked(1, 0, &[0, 1]);
+    chunked(2, 0, &[0, 1]);
+    chunked(0xffff_ffff_ffff_ffff, 0, &[0, 1]);
+    chunked(0, 4_294_967_297, &[0, 1]);
+    chunked(0, 0, &[0]);
+    chunked(1, 0, &[0]);
+}
+
 // One bucket; all of work is lent.
 fn one(hashes: &[u64], begins: &[u32]) {
     case(
         level(1),
         [0i64; 7],
-        true,
+        in_one(true),
         hashes,
         begins,
         log_table::house(),
@@ -61,7 +92,7 @@ fn three(hashes: &[u64], begins: &[u32]) {
     case(
         level(3),
         [0i64; 7],
-        true,
+        in_one(true),
         hashes,
         begins,
         log_table::house(),
@@ -131,7 +162,7 @@ fn priced(table: [u32; 2048], entries: usize)
     case(
         level(1),
         [0i64; 7],
-        true,
+        in_one(true),
         &[0],
         &[0, 1],
         table,
@@ -165,7 +196,7 @@ fn lent(seeds: usize, bitmap: usize, work: usize)
     case(
         level(1),
         [0i64; 7],
-        true,
+        in_one(true),
         &[0, 0x4000_0000_0000_0003],
         &[0, 2],
         log_table::house(),
@@ -202,7 +233,7 @@ fn bumping(bump: bool) {
     case(
         level(3),
         [9000, 0, 5000, 0, 0, 0, 0],
-        bump,
+        in_one(bump),
         &keys,
         &[0, 2, 3, 6],
         house,
@@ -214,7 +245,7 @@ fn bumping(bump: bool) {
     case(
         level(3),
         [9000, 0, 0, 0, 0, 0, 0],
-        bump,
+        in_one(bump),
         &keys,
         &[0, 2, 3, 6],
         house,
@@ -226,7 +257,7 @@ fn bumping(bump: bool) {
     case(
         level(1),
         [0i64; 7],
-        bump,
+        in_one(bump),
         &[0, 0],
         &[0, 2],
         house,
@@ -243,7 +274,7 @@ fn neighbours() {
     case(
         level(1),
         [0, 4_294_967_297, 0, 0, 0, 0, 0],
-        true,
+        in_one(true),
         &[0],
         &[0],
         house,
@@ -255,7 +286,7 @@ fn neighbours() {
     case(
         level(3),
         [0i64; 7],
-        true,
+        in_one(true),
         &[0],
         &[0, 0, 1, 1],
         house,
@@ -267,7 +298,7 @@ fn neighbours() {
     case(
         level(1),
         [0i64; 7],
-        true,
+        in_one(true),
         &[0],
         &[0, 1],
         house,
@@ -279,7 +310,7 @@ fn neighbours() {
     case(
         level(1),
         [0i64; 7],
-        false,
+        in_one(false),
         &[0, 0],
         &[0, 2],
         house,
@@ -292,6 +323,7 @@ fn neighbours() {
 
 pub fn all() {
     weights();
+    chunks();
     begins();
     largest();
     homes();

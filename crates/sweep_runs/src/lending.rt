@@ -1,5 +1,6 @@
 // One case: buffers full of rubbish are lent to a sweep, and what is in them afterwards is written.
 ghost use Prim.Native.Nat.{_≤_, _<_};
+use rules::How;
 use rules::Named;
 use rules::Outcome;
 use rules::Settings;
@@ -51,17 +52,18 @@ fn put_work(xs: &[u64; 15200]) {
     io::write_all(1, b"\n");
 }
 
-fn put_settings(s: Settings, bump: bool) {
+fn put_settings(s: Settings, how: How) {
     io::print_decimal(1, s.m);
     put(s.log2_slice_len);
     put(s.ll);
     put(s.sb);
     put(s.buckets);
-    if bump {
+    if how.bump {
         put(1);
     } else {
         put(0);
     }
+    put(how.chunks);
 }
 
 fn put_record(r: SweepRecord) {
@@ -90,7 +92,7 @@ fn put_record(r: SweepRecord) {
 fn run(
     s: Settings,
     weights: [i64; 7],
-    bump: bool,
+    how: How,
     hashes: &[u64],
     begins: &[u32],
     table: &[u32],
@@ -98,21 +100,29 @@ fn run(
     bitmap: &mut [u64],
     work: &mut [u64],
 ) {
-    put_settings(s, bump);
+    put_settings(s, how);
     put(hashes.len() as u64);
     put(begins.len() as u64);
     put(table.len() as u64);
     put(seeds.len() as u64);
     put(bitmap.len() as u64);
     put(work.len() as u64);
-    put_record(sweep::sweep(s, weights, bump, hashes, begins, table, seeds, bitmap, work));
+    put_record(sweep::sweep(s, weights, how, hashes, begins, table, seeds, bitmap, work));
+}
+
+// In one chunk.
+pub fn in_one(bump: bool) -> How {
+    How {
+        bump: bump,
+        chunks: 1,
+    }
 }
 
 // One case, with so many entries of the table, and buffers of these lengths.
 pub fn case(
     s: Settings,
     weights: [i64; 7],
-    bump: bool,
+    how: How,
     hashes: &[u64],
     begins: &[u32],
     table: [u32; 2048],
@@ -129,7 +139,7 @@ pub fn case(
     run(
         s,
         weights,
-        bump,
+        how,
         hashes,
         begins,
         &table[..entries],

@@ -1,5 +1,6 @@
 // The numbers 1 to 7.
 use super::lending::case;
+use super::lending::in_one;
 use rules::Settings;
 
 // Key 0 alone, with buffers for one bucket and one bitmap word; all of work is lent.
@@ -19,7 +20,7 @@ fn weighed(m: u64, log2_slice_len: u64, ll: u64, sb: u64, buckets: u64, weight: 
     case(
         s,
         [weight, 0, 0, 0, 0, 0, 0],
-        true,
+        in_one(true),
         &[0],
         &[0, 1],
         log_table::house(),

@@ -1,5 +1,6 @@
 // The sheets P3 to P9 of document 01, a level without keys, and one of three bitmap words.
 use super::lending::case;
+use super::lending::in_one;
 use rules::Settings;
 
 fn level(m: u64, sb: u64, buckets: u64) -> Settings {
@@ -17,7 +18,7 @@ fn one_bucket(m: u64, sb: u64, bump: bool, hashes: &[u64], begins: &[u32]) {
     case(
         level(m, sb, 1),
         [0i64; 7],
-        bump,
+        in_one(bump),
         hashes,
         begins,
         log_table::house(),
@@ -33,7 +34,7 @@ fn listing(weight: i64) {
     case(
         level(7, 4, 3),
         [weight, 0, 0, 0, 0, 0, 0],
-        true,
+        in_one(true),
         &[
             0x4000_0000_0000_0000,
             0x4000_0000_0000_0003,
@@ -77,7 +78,7 @@ fn three_words(bump: bool) {
     case(
         s,
         [500, 1500, 2500, 3500, 4500, 5500, 6500],
-        bump,
+        in_one(bump),
         &hashes,
         &[0, 4, 6, 10, 12, 15],
         log_table::house(),

@@ -3,9 +3,11 @@ pub mod Members
 pub mod KeyLaws
 pub mod AscLaws
 pub mod QueueLaws
-pub mod HeapLaws
 pub mod CyclicLaws
 pub mod Later
+pub mod LargeLaws
+pub mod Sizes
+pub mod Foremost
 pub mod Drawn
 pub mod WindowLaws
 pub mod Tops

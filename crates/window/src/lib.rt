@@ -4,23 +4,22 @@ ghost use mathlib.Core.List.{List};
 ghost use Prim.Native.Nat.{ℕ, _+_, _≤_, _<_, _^_, min};
 ghost use lib.Dec.{eqb};
 ghost use Rattle.rules.specs.Order.{Input};
-ghost use Rattle.heap.specs.Ordered.{Kept};
 ghost use Rattle.window.specs.Queues.{queuesOf};
-ghost use Rattle.window.specs.Changes.{Enterable, Entered, Choice, Out, Poppable, Popping};
+ghost use Rattle.window.specs.Changes.{Enterable, Entered, Choice, Poppable, Popping};
 ghost use Rattle.window.specs.Window.{state, stateAt, Ranged, Window, Windowed, Full, Turned, Entering, Waiting, Filled};
 
 pub mod buckets;
 pub mod cyclic;
+pub mod large;
 pub mod queues;
 pub mod rule;
 
 // Whose turn it is: the window moves over the buckets of a range, and each turn takes the one that rule W names.
 // Its arrays are locals of the sweep, each lent by its own reference, so that nothing large is copied; what changes
-// at every turn is small and goes by value. `large` is an array and no part of lent work: its size is fixed, and a
-// heap of keys is signed where work is not.
+// at every turn is small and goes by value.
 
-// Where the window stands: its oldest bucket, the next one to enter, the sizes below 64 that it has, and how many
-// buckets of 64 keys and more.
+// Where the window stands: its oldest bucket, the next one to enter, the sizes below 64 that it has, and the bucket of 64
+// keys and more that goes first, told by one more than its number, with 0 for none.
 pub struct View {
     pub oldest: usize,
     pub next: usize,
@@ -34,16 +33,16 @@ pub struct Turn {
     pub view: View,
 }
 
-// What the queues and the heap have: the sizes below 64, and how many buckets of 64 keys and more.
+// What the window has: the sizes below 64, and of the buckets of 64 keys and more the one that goes first.
 pub struct Held {
     pub nonempty: u64,
     pub large: usize,
 }
 
-// A bucket that is taken, and what the queues and the heap have then.
+// A bucket that is taken, and the sizes below 64 that the window has then.
 pub struct Popped {
     pub bucket: usize,
-    pub held: Held,
+    pub nonempty: u64,
 }
 
 // Whether the window has no bucket.
@@ -60,7 +59,8 @@ fn smaller(a: usize, b: usize) -> usize
     if a < b { a } else { b }
 }
 
-// Bucket `b`, of `size` keys, enters: the queue of its size, or the heap from 64 keys on. An empty bucket stays out.
+// Bucket `b`, of `size` keys, enters: the queue of its size; from 64 keys on it is only marked, and may now go first among
+// those. An empty bucket stays out.
 fn enter(
     queues: &mut [[u8; 256]; 64],
     heads: &[u8; 64],
@@ -68,16 +68,16 @@ fn enter(
     keys: &mut [i64; 64],
     table: &[i64; 64],
     set: &mut [u64; 16],
-    large: &mut [i64; 256],
+    begins: &[u32],
     on: u64,
     n: usize,
     b: usize,
     size: usize,
 ) -> Held
-    requires { ⌜ Enterable (now table) (queuesOf (now queues) (now heads) (now lengths) (now keys) on) (now set) (now large) n b size ⌝ }
+    requires { ⌜ Enterable (now table) (queuesOf (now queues) (now heads) (now lengths) (now keys) on) (now set) (now begins) n b size ⌝ }
     ensures { λ r. ⌜ Entered (now (table .entry))
-        (queuesOf (now (queues .entry)) (now (heads .entry)) (now (lengths .entry)) (now (keys .entry)) on) (now (set .entry)) (now (large .entry)) n b size
-        (queuesOf (now (queues .exit)) (now (heads .entry)) (now (lengths .exit)) (now (keys .exit)) (r .nonempty)) (now (set .exit)) (now (large .exit)) (r .large) ⌝ }
+        (queuesOf (now (queues .entry)) (now (heads .entry)) (now (lengths .entry)) (now (keys .entry)) on) (now (set .entry)) (now (begins .entry)) n b size
+        (queuesOf (now (queues .exit)) (now (heads .entry)) (now (lengths .exit)) (now (keys .exit)) (r .nonempty)) (now (set .exit)) (r .large) ⌝ }
 {
     if size == 0 {
         return Held {
@@ -93,12 +93,10 @@ fn enter(
             large: n,
         };
     }
-    let w = rule::beyond(table[6], table[7], size);
-    let k = rule::key(w, b);
-    heap::put(large, n, k);
+    let first = large::first_of(begins, table, n, b);
     Held {
         nonempty: on,
-        large: n + 1,
+        large: first,
     }
 }
 
@@ -110,17 +108,16 @@ fn fill(
     keys: &mut [i64; 64],
     table: &[i64; 64],
     set: &mut [u64; 16],
-    large: &mut [i64; 256],
     begins: &[u32],
     hi: usize,
     view: View,
 ) -> View
-    requires { ⌜ Entering (now begins) (now table) hi (state (now queues) (now heads) (now lengths) (now keys) (now set) (now large) view) ⌝ }
+    requires { ⌜ Entering (now begins) (now table) hi (state (now queues) (now heads) (now lengths) (now keys) (now set) view) ⌝ }
     ensures { λ r. ⌜ (r .oldest ≡ view .oldest) × (r .next ≡ min (view .oldest + 256) hi) ⌝ }
     ensures { λ r. ⌜ ((i : Input) (lo k : ℕ) (rest : List ℕ)
         → Ranged i (now (begins .entry)) (now (table .entry)) hi
-        → Window i lo hi k (state (now (queues .entry)) (now (heads .entry)) (now (lengths .entry)) (now (keys .entry)) (now (set .entry)) (now (large .entry)) view) rest
-        → Window i lo hi k (state (now (queues .exit)) (now (heads .entry)) (now (lengths .exit)) (now (keys .exit)) (now (set .exit)) (now (large .exit)) r) rest) ⌝ }
+        → Window i lo hi k (state (now (queues .entry)) (now (heads .entry)) (now (lengths .entry)) (now (keys .entry)) (now (set .entry)) view) rest
+        → Window i lo hi k (state (now (queues .exit)) (now (heads .entry)) (now (lengths .exit)) (now (keys .exit)) (now (set .exit)) r) rest) ⌝ }
 {
     let o = view.oldest;
     let to = smaller(o + 256, hi);
@@ -136,7 +133,7 @@ fn fill(
             keys,
             table,
             set,
-            large,
+            begins,
             on,
             n,
             b,
@@ -162,16 +159,15 @@ pub fn refill(
     keys: &mut [i64; 64],
     table: &[i64; 64],
     set: &mut [u64; 16],
-    large: &mut [i64; 256],
     begins: &[u32],
     hi: usize,
     view: View,
 ) -> View
-    requires { ⌜ Waiting (now begins) (now table) hi (state (now queues) (now heads) (now lengths) (now keys) (now set) (now large) view) ⌝ }
+    requires { ⌜ Waiting (now begins) (now table) hi (state (now queues) (now heads) (now lengths) (now keys) (now set) view) ⌝ }
     ensures { λ r. ⌜ ((i : Input) (lo k : ℕ)
         → Ranged i (now (begins .entry)) (now (table .entry)) hi
-        → Windowed i lo hi k (state (now (queues .entry)) (now (heads .entry)) (now (lengths .entry)) (now (keys .entry)) (now (set .entry)) (now (large .entry)) view)
-        → Full i lo hi k (state (now (queues .exit)) (now (heads .entry)) (now (lengths .exit)) (now (keys .exit)) (now (set .exit)) (now (large .exit)) r)) ⌝ }
+        → Windowed i lo hi k (state (now (queues .entry)) (now (heads .entry)) (now (lengths .entry)) (now (keys .entry)) (now (set .entry)) view)
+        → Full i lo hi k (state (now (queues .exit)) (now (heads .entry)) (now (lengths .exit)) (now (keys .exit)) (now (set .exit)) r)) ⌝ }
 {
     if is_empty(view) {
         let o = buckets::skip(begins, view.next, hi);
@@ -181,38 +177,15 @@ pub fn refill(
             nonempty: view.nonempty,
             large: view.large,
         };
-        return fill(
-            queues,
-            heads,
-            lengths,
-            keys,
-            table,
-            set,
-            large,
-            begins,
-            hi,
-            moved,
-        );
+        return fill(queues, heads, lengths, keys, table, set, begins, hi, moved);
     }
-    fill(
-        queues,
-        heads,
-        lengths,
-        keys,
-        table,
-        set,
-        large,
-        begins,
-        hi,
-        view,
-    )
+    fill(queues, heads, lengths, keys, table, set, begins, hi, view)
 }
 
-// The size whose queue has the bucket of the greatest key, or 64 where the heap has it.
-fn whose(keys: &[i64; 64], nonempty: u64, large: &[i64; 256], n: usize) -> usize
+// The size whose queue has the bucket of the greatest key, or 64 where the bucket that `n` tells has it, whose key is `largest`.
+fn whose(keys: &[i64; 64], nonempty: u64, n: usize, largest: i64) -> usize
     requires { ⌜ (nonempty ≡ 0 → 0 < n) ⌝ }
-    requires { ⌜ Kept (now large) n ⌝ }
-    ensures { λ r. ⌜ Choice (now (keys .entry)) nonempty (now (large .entry)) n r ⌝ }
+    ensures { λ r. ⌜ Choice (now (keys .entry)) nonempty n largest r ⌝ }
 {
     if nonempty == 0 {
         return 64;
@@ -222,22 +195,10 @@ fn whose(keys: &[i64; 64], nonempty: u64, large: &[i64; 256], n: usize) -> usize
         return size;
     }
     let k = keys[size];
-    let l = heap::greatest(large, n);
-    if k < l {
+    if k < largest {
         return 64;
     }
     size
-}
-
-// The heap's greatest key is taken out. The result is its bucket, from `oldest` on.
-fn pop_large(large: &mut [i64; 256], n: usize, oldest: usize) -> usize
-    requires { ⌜ Kept (now large) n ⌝ }
-    requires { ⌜ (0 < n) × (oldest ≤ 67108865) ⌝ }
-    ensures { λ r. ⌜ Out (now (large .entry)) n oldest r (now (large .exit)) ⌝ }
-{
-    let k = heap::pop(large, n);
-    let place = rule::place_of(k);
-    oldest + (place + (1024 - oldest % 1024)) % 1024
 }
 
 // The bucket of the greatest key is taken out.
@@ -247,34 +208,28 @@ fn pop(
     lengths: &mut [u16; 64],
     keys: &mut [i64; 64],
     table: &[i64; 64],
-    large: &mut [i64; 256],
+    begins: &[u32],
     on: u64,
     n: usize,
     oldest: usize,
 ) -> Popped
-    requires { ⌜ Poppable (now table) (queuesOf (now queues) (now heads) (now lengths) (now keys) on) (now large) n oldest ⌝ }
+    requires { ⌜ Poppable (now table) (queuesOf (now queues) (now heads) (now lengths) (now keys) on) (now begins) n oldest ⌝ }
     ensures { λ r. ⌜ Popping (now (table .entry))
-        (queuesOf (now (queues .entry)) (now (heads .entry)) (now (lengths .entry)) (now (keys .entry)) on) (now (large .entry)) n oldest (r .bucket)
-        (queuesOf (now (queues .entry)) (now (heads .exit)) (now (lengths .exit)) (now (keys .exit)) (r .held .nonempty)) (now (large .exit)) (r .held .large) ⌝ }
+        (queuesOf (now (queues .entry)) (now (heads .entry)) (now (lengths .entry)) (now (keys .entry)) on) (now (begins .entry)) n oldest (r .bucket)
+        (queuesOf (now (queues .entry)) (now (heads .exit)) (now (lengths .exit)) (now (keys .exit)) (r .nonempty)) ⌝ }
 {
-    let size = whose(keys, on, large, n);
+    let k = large::key_told(begins, table, n);
+    let size = whose(keys, on, n, k);
     if size == 64 {
-        let b = pop_large(large, n, oldest);
         return Popped {
-            bucket: b,
-            held: Held {
-                nonempty: on,
-                large: n - 1,
-            },
+            bucket: n - 1,
+            nonempty: on,
         };
     }
     let s = queues::shift(queues, heads, lengths, keys, table, on, oldest, size);
     Popped {
         bucket: s.bucket,
-        held: Held {
-            nonempty: s.nonempty,
-            large: n,
-        },
+        nonempty: s.nonempty,
     }
 }
 
@@ -286,54 +241,55 @@ pub fn take(
     keys: &mut [i64; 64],
     table: &[i64; 64],
     set: &mut [u64; 16],
-    large: &mut [i64; 256],
     begins: &[u32],
     hi: usize,
     view: View,
 ) -> Turn
-    requires { ⌜ Filled (now begins) (now table) hi (state (now queues) (now heads) (now lengths) (now keys) (now set) (now large) view) ⌝ }
+    requires { ⌜ Filled (now begins) (now table) hi (state (now queues) (now heads) (now lengths) (now keys) (now set) view) ⌝ }
     requires { ⌜ (view .nonempty ≡ 0 → 0 < view .large) ⌝ }
     ensures { λ r. ⌜ ((i : Input) (lo k : ℕ)
         → Ranged i (now (begins .entry)) (now (table .entry)) hi
-        → Full i lo hi k (state (now (queues .entry)) (now (heads .entry)) (now (lengths .entry)) (now (keys .entry)) (now (set .entry)) (now (large .entry)) view)
-        → Turned i lo hi k (r .bucket) (state (now (queues .entry)) (now (heads .exit)) (now (lengths .exit)) (now (keys .exit)) (now (set .exit)) (now (large .exit)) (r .view))) ⌝ }
+        → Full i lo hi k (state (now (queues .entry)) (now (heads .entry)) (now (lengths .entry)) (now (keys .entry)) (now (set .entry)) view)
+        → Turned i lo hi k (r .bucket) (state (now (queues .entry)) (now (heads .exit)) (now (lengths .exit)) (now (keys .exit)) (now (set .exit)) (r .view))) ⌝ }
     ensures { λ r. ⌜ (view .oldest ≤ r .bucket) × (r .bucket < view .oldest + 256) ⌝ }
 {
     let o = view.oldest;
     let e = view.next;
+    let n = view.large;
     let p = pop(
         queues,
         heads,
         lengths,
         keys,
         table,
-        large,
+        begins,
         view.nonempty,
-        view.large,
+        n,
         o,
     );
     let b = p.bucket;
-    let held = p.held;
     words::clear_bit(set, b % 1024);
     if b == o {
         let next = cyclic::first_in(set, o + 1, e);
+        let large = large::left(set, begins, table, n, b, next, e);
         return Turn {
             bucket: b,
             view: View {
                 oldest: next,
                 next: e,
-                nonempty: held.nonempty,
-                large: held.large,
+                nonempty: p.nonempty,
+                large,
             },
         };
     }
+    let large = large::left(set, begins, table, n, b, o, e);
     Turn {
         bucket: b,
         view: View {
             oldest: o,
             next: e,
-            nonempty: held.nonempty,
-            large: held.large,
+            nonempty: p.nonempty,
+            large,
         },
     }
 }

@@ -13,43 +13,20 @@ fn all(
     keys: &mut [i64; 64],
     table: &[i64; 64],
     set: &mut [u64; 16],
-    large: &mut [i64; 256],
     begins: &[u32],
     hi: usize,
     view: View,
 )
-    requires { ⌜ Waiting (now begins) (now table) hi (state (now queues) (now heads) (now lengths) (now keys) (now set) (now large) view) ⌝ }
+    requires { ⌜ Waiting (now begins) (now table) hi (state (now queues) (now heads) (now lengths) (now keys) (now set) view) ⌝ }
 {
     let mut v = view;
     let mut turn: usize = 0;
     while turn < hi {
-        v = window::refill(
-            queues,
-            heads,
-            lengths,
-            keys,
-            table,
-            set,
-            large,
-            begins,
-            hi,
-            v,
-        );
+        v = window::refill(queues, heads, lengths, keys, table, set, begins, hi, v);
         if window::is_empty(v) {
             return;
         }
-        let t = window::take(
-            queues,
-            heads,
-            lengths,
-            keys,
-            table,
-            set,
-            large,
-            begins,
-            hi,
-            v,
-        );
+        let t = window::take(queues, heads, lengths, keys, table, set, begins, hi, v);
         v = t.view;
         let b = t.bucket;
         crate::put(b as u64);
@@ -69,7 +46,6 @@ pub fn order(begins: &[u32], weights: [i64; 7], lo: usize, hi: usize)
     let mut lengths = [0u16; 64];
     let mut keys = [0i64; 64];
     let mut set = [0u64; 16];
-    let mut large = [0i64; 256];
     let view = View {
         oldest: lo,
         next: lo,
@@ -83,7 +59,6 @@ pub fn order(begins: &[u32], weights: [i64; 7], lo: usize, hi: usize)
         &mut keys,
         &table,
         &mut set,
-        &mut large,
         begins,
         hi,
         view,

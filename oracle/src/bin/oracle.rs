@@ -64,14 +64,8 @@ fn input() -> Result<Vec<Case>, String> {
 }
 
 fn swept(chunks: usize) -> Result<String, String> {
-    let one = |case: &Case| match chunks {
-        1 => text::outcome(&outcome(case)),
-        _ => match sweep(case, chunks) {
-            Some(answer) => text::outcome(&Outcome::Done(answer)),
-            None => "none\n".to_string(),
-        },
-    };
-    Ok(input()?.iter().map(one).collect())
+    let one = |case: Case| text::outcome(&outcome(&Case { chunks, ..case }));
+    Ok(input()?.into_iter().map(one).collect())
 }
 
 fn row<T: std::fmt::Display>(values: &[T]) -> String {
@@ -127,7 +121,7 @@ fn time(keys: usize, seed: u64) -> String {
     let mut best = f64::INFINITY;
     for _ in 0..5 {
         let start = Instant::now();
-        std::hint::black_box(sweep(&case, 1));
+        std::hint::black_box(sweep(&case));
         best = best.min(start.elapsed().as_secs_f64());
     }
     format!("{keys} keys: {best:.6} s, {:.1} ns a key\n", best * 1e9 / keys.max(1) as f64)

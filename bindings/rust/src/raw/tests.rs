@@ -2,6 +2,7 @@
 //! say there. Callers of the crate do not see them.
 
 use super::*;
+use crate::How;
 
 const KEPT: u64 = 77;
 
@@ -9,11 +10,11 @@ const SOUND: Settings =
     Settings { slots: 7, log2_slice_len: 3, log2_layouts: 0, seed_bits: 4, buckets: 1 };
 
 /// Sweeps hashes of one bucket; answers the number, the counts and the bucket.
-fn swept(settings: Settings, bump: bool, hashes: &[u64]) -> (u64, [u64; 3], u64) {
+fn swept(settings: Settings, how: How, hashes: &[u64]) -> (u64, [u64; 3], u64) {
     let mut table = [0; HOUSE_ENTRIES];
     house_table(&mut table);
     let begins = [0, hashes.len() as u32];
-    let input = Input { settings, weights: [0; 7], bump, hashes, begins: &begins, table: &table };
+    let input = Input { settings, weights: [0; 7], how, hashes, begins: &begins, table: &table };
     let (mut seeds, mut bitmap, mut work) = ([1; 1], [1; 1], [1; 3000]);
     let output = Output { seeds: &mut seeds, bitmap: &mut bitmap, work: &mut work };
     let (mut counts, mut bucket) = ([KEPT; 3], KEPT);
@@ -23,9 +24,12 @@ fn swept(settings: Settings, bump: bool, hashes: &[u64]) -> (u64, [u64; 3], u64)
 
 #[test]
 fn a_sweep_tells_counts_or_a_bucket() {
-    assert_eq!(swept(SOUND, true, &[0]), (0, [1, 0, 0], KEPT));
-    assert_eq!(swept(SOUND, false, &[0, 0]), (14, [KEPT; 3], 0));
-    assert_eq!(swept(Settings { slots: 0, ..SOUND }, true, &[0]), (5, [KEPT; 3], KEPT));
+    let (bumping, forbidden) = (How::default(), How { bump: false, chunks: 1 });
+    let unchunked = How { bump: true, chunks: 0 };
+    assert_eq!(swept(SOUND, bumping, &[0]), (0, [1, 0, 0], KEPT));
+    assert_eq!(swept(SOUND, forbidden, &[0, 0]), (14, [KEPT; 3], 0));
+    assert_eq!(swept(SOUND, unchunked, &[0]), (20, [KEPT; 3], KEPT));
+    assert_eq!(swept(Settings { slots: 0, ..SOUND }, bumping, &[0]), (5, [KEPT; 3], KEPT));
 }
 
 /// Checks one bucket's keys under a seed and a bitmap; answers the number and the bucket.

@@ -2,18 +2,21 @@
 #![allow(dead_code)]
 
 use phastr::lent::{self, Input, Output};
-use phastr::{Counts, Error, Settings, log_table};
+use phastr::{Counts, Error, How, Settings, log_table};
 
 /// What stands in lent memory before a call.
 pub const SEED: u16 = 0xA5A5;
 pub const WORD: u64 = 0xA5A5_A5A5_A5A5_A5A5;
+
+/// No bumping, one chunk.
+pub const FORBIDDEN: How = How { bump: false, chunks: 1 };
 
 /// The inputs of a sweep and the lengths of what is lent.
 #[derive(Clone, Debug)]
 pub struct Case {
     pub settings: Settings,
     pub weights: [i64; 7],
-    pub bump: bool,
+    pub how: How,
     pub hashes: Vec<u64>,
     pub begins: Vec<u32>,
     pub table: Vec<u32>,
@@ -43,7 +46,7 @@ pub fn case(settings: Settings, buckets: &[&[u64]]) -> Case {
     let case = Case {
         settings,
         weights: [0; 7],
-        bump: true,
+        how: How::default(),
         hashes,
         begins,
         table,
@@ -91,7 +94,7 @@ impl Case {
         let input = Input {
             settings: self.settings,
             weights: self.weights,
-            bump: self.bump,
+            how: self.how,
             hashes: &self.hashes,
             begins: &self.begins,
             table: &self.table,

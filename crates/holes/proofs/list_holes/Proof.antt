@@ -10,7 +10,7 @@ use lib.Count.{trailingZeros, trailing-le}
 use Rattle.rules.specs.Holes.{holesOf}
 use Rattle.holes.proofs.SetBits.{setSlots}
 use Rattle.holes.proofs.Walk.{restFrom, rest-all, rest-none, rest-step}
-use Rattle.holes.proofs.Filling.{Filling, fill-start, fill-restart, fill-end, fill-room, fill-put, fill-chain, fill-slots, fill-word}
+use Rattle.holes.proofs.Filling.{Filling, fill-start, fill-restart, fill-all, fill-end, fill-room, fill-put, fill-chain, fill-slots, fill-word}
 use Rattle.holes.proofs.list_holes.Statement.{statement}
 use Rattle.holes.proofs.list_holes.Tie as tie
 
@@ -89,7 +89,11 @@ same-length : tie.Need-same-length Inv-loop2 μ-loop2 Inv-loop μ-loop
 same-length c = c .before .loop .inv .2 .same
 
 returns : tie.Need-returns Inv-loop2 μ-loop2 Inv-loop μ-loop
-returns c = fill-end (c .before .loop .inv .2) (rest-none _ _ _ (omega arith))
+returns c =
+    let a = c .before .before .before .before .args in
+    let f = c .before .loop .inv .2 in
+    let none = rest-none (a .m) (a .bitmap .now) (c .before .loop .w) (omega arith) in
+    (fill-all f none, fill-end f none)
 
 pub list-holes-spec : {M : Type 1} → statement M
 list-holes-spec =

@@ -5,7 +5,7 @@ use Prim.Native.Nat.{_-_}
 use native.Mathlib.Omega.{arith}
 use borrow.Author.Needs.{needs}
 use Rattle.rings.specs.RingLaws.{n-le}
-use Rattle.search.specs.LaidLaws.{laid-rows, laid-map, best-in, best-zero, best-placed}
+use Rattle.search.specs.LaidLaws.{laid-rows, laid-settling, best-in, best-blank, best-zero, best-placed}
 use Rattle.search.specs.ReadyLaws.{ready-shape, bucket-in, layouts-few, layouts-room, map-fits, code-preparing, code-looking, code-laid, searched-since}
 use Rattle.search.proofs.search.Statement.{statement}
 use Rattle.search.proofs.search.Tie as tie
@@ -71,8 +71,7 @@ settle-requires c κs = let q = c .before .before .before .before .before .befor
     let f = c .before .before .before .before .before .before .before .best-free .result in
     let d = code-laid q (c .before .before .before .before .before .before .before .before .before .before .before .before .before .before .first .ensures .0) (c .before .before .before .before .before .before .before .before .before .before .before .before .before .free-words .ensures) (c .before .before .before .before .before .before .before .before .before .before .before .prepare .ensures) l in
     let n = best-in (d .laid) (d .is) (c .before .before .before .if1 .left) in
-    let k = laid-rows (d .laid) .keys (f .r) (n .0) in
-    (k .shape, ((k .above, k .room), (k .keys, ((k .begin, omega (arith, n .1, n-le (c .before .before .before .before .before .before .before .before .before .before .before .before .before .before .before .before .before .before .before .args .ring) (k .shape))), laid-map (d .laid) (f .r) (n .0) (f .j)))))
+    (laid-settling (d .laid) (f .r) (f .j) (n .0) (n .1), best-blank (d .laid) (d .is) (c .before .before .before .if1 .left))
 
 seed-of-requires : tie.Need-seed-of-requires
 seed-of-requires c κs = let q = c .before .before .before .before .before .before .before .before .before .before .before .before .before .before .before .before .before .before .before .before .before .before .before .before .before .pre .ready in

@@ -4,7 +4,7 @@ use Prim.Native.Nat.{_-_}
 use native.Mathlib.Omega.{arith}
 use borrow.Author.Needs.{needs}
 use Rattle.rings.specs.RingLaws.{n-le}
-use Rattle.search.specs.LaidLaws.{laid-aside-put, laid-sorted, laid-rows, laid-map, laid-few, laid-twins, apart-in, apart-zero, apart-placed}
+use Rattle.search.specs.LaidLaws.{laid-aside-put, laid-sorted, laid-rows, laid-settling, laid-few, laid-twins, apart-in, apart-blank, apart-zero, apart-placed}
 use Rattle.search.proofs.search_distinct.Statement.{statement}
 use Rattle.search.proofs.search_distinct.Tie as tie
 
@@ -64,8 +64,7 @@ settle-requires c κs = let e = c .before .before .before .before .before .befor
     let d = laid-sorted (s .pre .laid) (e .last .1 .0) (e .kept .1 .0) in
     let f = c .before .before .before .before .before .before .before .best-distinct in
     let l = apart-in d (f .ensures .0) (c .before .before .before .if2 .left) in
-    let k = laid-rows d .keys (f .result .r) (l .0) in
-    rw (f .ensures .1) (k .shape, ((k .above, k .room), (k .keys, ((k .begin, omega (arith, l .1, n-le (s .args .ring) (k .shape))), laid-map d (f .result .r) (l .0) (f .result .j)))))
+    rw (f .ensures .1) (laid-settling d (f .result .r) (f .result .j) (l .0) (l .1), apart-blank d (f .ensures .0) (c .before .before .before .if2 .left))
 
 seed-of-requires : tie.Need-seed-of-requires
 seed-of-requires c κs = let e = c .before .before .before .before .before .before .before .before .before .before .before .before .before .before .before .before .before .has-equal in

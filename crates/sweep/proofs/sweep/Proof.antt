@@ -13,52 +13,43 @@ use Rattle.geometry.proofs.shape.geometry_of.Reads as geometry-of-reads
 use Rattle.sweep.proofs.perform.Reads as perform-reads
 use Rattle.sweep.proofs.refused.Reads as refused-reads
 
--- src/lib.rt:111:9
 check-all-requires : tie.Need-check-all-requires
 check-all-requires c κs = search needs
 
--- src/lib.rt:123:9
 refused-requires : tie.Need-refused-requires
 refused-requires c κs = search needs
 
--- src/lib.rt:123:9
 returns : tie.Need-returns
 returns c =
     let a = c .before .before .before .before .before .before .before .before .before .args in
     let l =
-    subst (λ (r : SweepRecord). Left (inputOf (a .settings) (a .weights) (a .hashes .now) (a .begins .now) (a .table .now)) (a .bump) (a .seeds .now) (a .bitmap .now) (a .work .now) r (a .seeds .now) (a .bitmap .now) (a .work .now)) (sym (c .refused .ensures))
+    subst (λ (r : SweepRecord). Left (inputOf (a .settings) (a .weights) (a .hashes .now) (a .begins .now) (a .table .now)) (a .how) (a .seeds .now) (a .bitmap .now) (a .work .now) r (a .seeds .now) (a .bitmap .now) (a .work .now)) (sym (c .refused .ensures))
     (left-refused (c .before .before .check-all .ensures .number) (c .before .if1 .taken)) in
     (l .answer, (l .given, (l .marked, l .worked)))
 
--- src/lib.rt:126:9
 geometry-of-requires : tie.Need-geometry-of-requires
 geometry-of-requires c κs =
     let a = c .before .before .before .before .before .before .before .before .args in
-    usable (a .settings) (a .weights) (a .hashes .now) (a .begins .now) (a .table .now) (a .seeds .now) (a .bitmap .now) (a .work .now) (c .before .check-all .ensures) (c .if1 .left)
+    usable (a .settings) (a .weights) (a .how) (a .hashes .now) (a .begins .now) (a .table .now) (a .seeds .now) (a .bitmap .now) (a .work .now) (c .before .check-all .ensures) (c .if1 .left)
 
--- src/lib.rt:125:5
 perform-requires : tie.Need-perform-requires
 perform-requires c κs =
     let a = c .before .before .before .before .before .before .before .before .before .before .before .before .args in
-    performing (a .settings) (a .weights) (a .hashes .now) (a .begins .now) (a .table .now) (a .seeds .now) (a .bitmap .now) (a .work .now) (c .before .before .before .before .before .check-all .ensures) (c .before .before .before .before .if1 .left) (c .before .before .before .geometry-of .ensures)
+    performing (a .settings) (a .weights) (a .how) (a .hashes .now) (a .begins .now) (a .table .now) (a .seeds .now) (a .bitmap .now) (a .work .now) (c .before .before .before .before .before .check-all .ensures) (c .before .before .before .before .if1 .left) (c .before .before .before .geometry-of .ensures)
 
--- src/lib.rt:91:1
 same-length : tie.Need-same-length
 same-length c = search needs
 
--- src/lib.rt:91:1
 same-length-2 : tie.Need-same-length-2
 same-length-2 c = search needs
 
--- src/lib.rt:91:1
 same-length-3 : tie.Need-same-length-3
 same-length-3 c = search needs
 
--- src/lib.rt:91:1
 returns-2 : tie.Need-returns-2
 returns-2 c =
     let a = c .before .before .before .before .before .before .before .before .before .before .before .before .before .before .before .before .before .before .before .args in
-    let l = left-by (a .settings) (a .weights) (a .hashes .now) (a .begins .now) (a .table .now) (a .seeds .now) (a .bitmap .now) (a .work .now) (c .before .before .before .before .before .before .before .before .before .before .geometry-of .ensures) (c .before .before .before .before .before .before .perform .ensures) in
+    let l = left-by (a .settings) (a .weights) (a .how) (a .hashes .now) (a .begins .now) (a .table .now) (a .seeds .now) (a .bitmap .now) (a .work .now) (c .before .before .before .before .before .before .before .before .before .before .geometry-of .ensures) (c .before .before .before .before .before .before .perform .ensures) in
     (l .answer, (l .given, (l .marked, l .worked)))
 
 pub sweep-spec : {M : Type 1} → statement M

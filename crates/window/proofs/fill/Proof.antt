@@ -26,67 +26,58 @@ oldest-low : {begins : List ℕ} {table : List ℤ} {hi : ℕ} {s : State} → E
 oldest-low {s = s} d = omega (arith, d .ranged .few, d .window .end, asc-room (s .oldest) (s .next) (d .window .inside) (d .window .holds .asc))
 
 abbrev Inv-loop : tie.InvT-loop
-Inv-loop queues₀ heads lengths₀ keys₀ table set₀ large₀ begins hi o to on₀ n₀ b₀ queues lengths keys set large on n b =
+Inv-loop queues₀ heads lengths₀ keys₀ table set₀ begins hi o to on₀ n₀ b₀ queues lengths keys set on n b =
     (b ≤ to)
-    × Filling begins table hi (stateAt (queuesOf queues₀ heads lengths₀ keys₀ on₀) set₀ large₀ n₀ o b₀) (stateAt (queuesOf queues heads lengths keys on) set large n o b)
+    × Filling begins table hi (stateAt (queuesOf queues₀ heads lengths₀ keys₀ on₀) set₀ n₀ o b₀) (stateAt (queuesOf queues heads lengths keys on) set n o b)
 
 abbrev μ-loop : tie.MeasureT-loop
-μ-loop queues₀ heads lengths₀ keys₀ table set₀ large₀ begins hi o to on₀ n₀ b₀ queues lengths keys set large on n b = to - b
+μ-loop queues₀ heads lengths₀ keys₀ table set₀ begins hi o to on₀ n₀ b₀ queues lengths keys set on n b = to - b
 
--- src/lib.rt:125:22
 add-smaller : tie.Need-add-smaller Inv-loop μ-loop
 add-smaller c = let d = c .before .pre in omega (arith, oldest-low d)
 
--- src/lib.rt:125:9
 smaller-requires : tie.Need-smaller-requires Inv-loop μ-loop
 smaller-requires c κs = search needs
 
--- src/lib.rt:129:5
 loop-holds : tie.Need-loop-holds Inv-loop μ-loop
 loop-holds c = let d = c .before .before .pre in (omega (arith, c .smaller .ensures, d .window .end, d .window .holds .narrow), λ i lo k rest g w. w)
 
--- src/lib.rt:130:13
 size-of-requires : tie.Need-size-of-requires Inv-loop μ-loop
 size-of-requires c κs =
     let d = c .before .before .before .before .pre in
     let l : c .before .loop .b < c .before .before .before .before .args .hi = omega (arith, c .loop-test .taken, c .before .before .smaller .ensures) in
     record { placed = omega (arith, d .ranged .long); rises = d .ranged .rises (c .before .loop .b) l }
 
--- src/lib.rt:131:13
 enter-requires : tie.Need-enter-requires Inv-loop μ-loop
 enter-requires c κs =
-    let s = c .before .before .before .before .before .before .before .before .before .before in
+    let s = c .before .before .before .before .before .before .before .before .before in
     let d = s .pre in
-    let l = c .before .before .before .before .before .before .before .loop in
-    let t = c .before .before .before .before .before .before .loop-test .taken in
-    let m = c .before .before .before .before .before .before .before .before .smaller .ensures in
+    let l = c .before .before .before .before .before .before .loop in
+    let t = c .before .before .before .before .before .loop-test .taken in
+    let m = c .before .before .before .before .before .before .before .smaller .ensures in
     enterable (d .i) (now (s .args .begins)) (now (s .args .table)) (s .args .hi) (d .ranged) (d .lo) (d .k)
-    (queuesOf (l .queues) (now (s .args .heads)) (l .lengths) (l .keys) (l .on)) (l .set) (l .large) (l .n) (s .args .view .oldest) (l .b) (d .rest)
-    (l .inv .1 (d .i) (d .lo) (d .k) (d .rest) (d .ranged) (d .window)) (omega arith) (omega arith) (c .before .before .before .before .before .size-of .result) (c .before .before .before .before .before .size-of .ensures .0)
+    (queuesOf (l .queues) (now (s .args .heads)) (l .lengths) (l .keys) (l .on)) (l .set) (l .n) (s .args .view .oldest) (l .b) (d .rest)
+    (l .inv .1 (d .i) (d .lo) (d .k) (d .rest) (d .ranged) (d .window)) (omega arith) (omega arith) (c .before .before .before .before .size-of .result) (c .before .before .before .before .size-of .ensures .0)
 
--- src/lib.rt:146:9
 add-b : tie.Need-add-b Inv-loop μ-loop
-add-b c = omega (arith, c .before .before .before .before .before .before .before .loop-test .taken, c .before .before .before .before .before .before .before .before .before .smaller .ensures, c .before .before .before .before .before .before .before .before .before .before .before .pre .ranged .few)
+add-b c = omega (arith, c .before .before .before .before .before .before .loop-test .taken, c .before .before .before .before .before .before .before .before .smaller .ensures, c .before .before .before .before .before .before .before .before .before .before .pre .ranged .few)
 
--- src/lib.rt:129:5
 loop-less : tie.Need-loop-less Inv-loop μ-loop
-loop-less c = omega (arith, c .before .before .before .before .before .before .before .loop-test .taken)
+loop-less c = omega (arith, c .before .before .before .before .before .before .loop-test .taken)
 
--- src/lib.rt:129:5
 loop-again : tie.Need-loop-again Inv-loop μ-loop
 loop-again c =
-    let s = c .before .before .before .before .before .before .before .before .before .before .before in
-    let l = c .before .before .before .before .before .before .before .before .loop in
-    let t = c .before .before .before .before .before .before .before .loop-test .taken in
-    let m = c .before .before .before .before .before .before .before .before .before .smaller .ensures in (
+    let s = c .before .before .before .before .before .before .before .before .before .before in
+    let l = c .before .before .before .before .before .before .before .loop in
+    let t = c .before .before .before .before .before .before .loop-test .taken in
+    let m = c .before .before .before .before .before .before .before .before .smaller .ensures in (
       omega arith,
       λ i lo k rest g w.
           enters i (now (s .args .begins)) (now (s .args .table)) (s .args .hi) g lo k
-          (queuesOf (l .queues) (now (s .args .heads)) (l .lengths) (l .keys) (l .on)) (l .set) (l .large) (l .n) (s .args .view .oldest) (l .b) rest
-          (l .inv .1 i lo k rest g w) (omega arith) (omega arith) (c .before .before .before .before .before .before .size-of .result) (c .before .before .before .before .before .before .size-of .ensures .0) _ _ _ _ (c .enter .ensures),
+          (queuesOf (l .queues) (now (s .args .heads)) (l .lengths) (l .keys) (l .on)) (l .set) (l .n) (s .args .view .oldest) (l .b) rest
+          (l .inv .1 i lo k rest g w) (omega arith) (omega arith) (c .before .before .before .before .before .size-of .result) (c .before .before .before .before .before .size-of .ensures .0) _ _ _ (c .enter .ensures),
     )
 
--- src/lib.rt:105:1
 returns : tie.Need-returns Inv-loop μ-loop
 returns c =
     let m = c .before .before .smaller .ensures in

@@ -14,30 +14,26 @@ use Rattle.window.proofs.buckets.skip.Reads as skip-reads
 use Rattle.window.proofs.fill.Reads as fill-reads
 use Rattle.window.proofs.is_empty.Reads as is-empty-reads
 
--- src/lib.rt:175:8
 is-empty-requires : tie.Need-is-empty-requires
 is-empty-requires c κs = search needs
 
--- src/lib.rt:176:13
 skip-requires : tie.Need-skip-requires
 skip-requires c κs = search needs
 
--- src/lib.rt:183:9
 fill-requires : tie.Need-fill-requires
 fill-requires c κs =
-    let s = c .before .before .before .before .before .before .before .before .before in
+    let s = c .before .before .before .before .before .before .before .before in
     let d = s .pre in
-    let z = is-empty (s .args .view .nonempty) (s .args .view .large) (sym (c .before .before .before .before .before .before .before .is-empty .ensures .0) ∙ c .before .before .before .before .before .before .if1 .taken) in
-    let w = skip (d .i) (now (s .args .begins)) (now (s .args .table)) (s .args .hi) (d .ranged) (d .lo) (d .k) _ (c .before .before .before .before .before .skip .result) (d .windowed) (z .0) (z .1) (c .before .before .before .before .before .skip .ensures) in
+    let z = is-empty (s .args .view .nonempty) (s .args .view .large) (sym (c .before .before .before .before .before .before .is-empty .ensures .0) ∙ c .before .before .before .before .before .if1 .taken) in
+    let w = skip (d .i) (now (s .args .begins)) (now (s .args .table)) (s .args .hi) (d .ranged) (d .lo) (d .k) _ (c .before .before .before .before .skip .result) (d .windowed) (z .0) (z .1) (c .before .before .before .before .skip .ensures) in
     record { i = d .i; lo = d .lo; k = d .k; rest = d .windowed .rest; ranged = d .ranged; window = w .0 }
 
--- src/lib.rt:183:9
 returns : tie.Need-returns
 returns c =
     λ i lo k g h.
-    let s = c .before .before .before .before .before .before .before .before .before .before in
-    let z = is-empty (s .args .view .nonempty) (s .args .view .large) (sym (c .before .before .before .before .before .before .before .before .is-empty .ensures .0) ∙ c .before .before .before .before .before .before .before .if1 .taken) in
-    let w = skip i (now (s .args .begins)) (now (s .args .table)) (s .args .hi) g lo k _ (c .before .before .before .before .before .before .skip .result) h (z .0) (z .1) (c .before .before .before .before .before .before .skip .ensures) in
+    let s = c .before .before .before .before .before .before .before .before .before in
+    let z = is-empty (s .args .view .nonempty) (s .args .view .large) (sym (c .before .before .before .before .before .before .before .is-empty .ensures .0) ∙ c .before .before .before .before .before .before .if1 .taken) in
+    let w = skip i (now (s .args .begins)) (now (s .args .table)) (s .args .hi) g lo k _ (c .before .before .before .before .before .skip .result) h (z .0) (z .1) (c .before .before .before .before .before .skip .ensures) in
     let e = c .fill .ensures .0 in
     record {
       rest = h .rest;
@@ -46,21 +42,19 @@ returns c =
       wide = e .1 ∙ ap (λ (o : ℕ). min (o + 256) (s .args .hi)) (sym (e .0));
     }
 
--- src/lib.rt:196:5
 fill-requires-2 : tie.Need-fill-requires-2
 fill-requires-2 c κs = search needs
 
--- src/lib.rt:157:1
 returns-2 : tie.Need-returns-2
 returns-2 c =
     λ i lo k g h.
-    let s = c .before .before .before .before .before .before .before .before .before in
-    let n = not-empty (s .args .view .nonempty) (s .args .view .large) (sym (c .before .before .before .before .before .before .before .is-empty .ensures .0) ∙ c .before .before .before .before .before .before .if1 .left) in
+    let s = c .before .before .before .before .before .before .before .before in
+    let n = not-empty (s .args .view .nonempty) (s .args .view .large) (sym (c .before .before .before .before .before .before .is-empty .ensures .0) ∙ c .before .before .before .before .before .if1 .left) in
     let e = c .fill2 .ensures .0 in
     record {
       rest = h .rest;
       window = c .fill2 .ensures .1 i lo k (h .rest) g (h .window);
-      oldest = subst (λ (o : ℕ). (h .rest ≡ []) ⊎ Headed o (h .rest)) (sym (e .0)) (stays-headed i (now (s .args .begins)) (now (s .args .table)) (s .args .hi) g lo k _ h (c .before .before .before .before .before .before .before .is-empty .ensures .1) n);
+      oldest = subst (λ (o : ℕ). (h .rest ≡ []) ⊎ Headed o (h .rest)) (sym (e .0)) (stays-headed i (now (s .args .begins)) (now (s .args .table)) (s .args .hi) g lo k _ h (c .before .before .before .before .before .before .is-empty .ensures .1) n);
       wide = e .1 ∙ ap (λ (o : ℕ). min (o + 256) (s .args .hi)) (sym (e .0));
     }
 

@@ -16,37 +16,29 @@ Inv-loop a₀ n i₀ a i = (i ≤ n) × (a ≡ replicate i 0 ++ drop i a₀) × 
 abbrev μ-loop : tie.MeasureT-loop
 μ-loop a₀ n i₀ a i = n - i
 
--- src/clearing.rt:13:5
 loop-holds : tie.Need-loop-holds Inv-loop μ-loop
 loop-holds c = (omega arith, fill-none (c .args .a .now) 0, refl)
 
--- src/clearing.rt:14:9
 mul-a : tie.Need-mul-a Inv-loop μ-loop
 mul-a c = search needs
 
--- src/clearing.rt:14:9
 slice-write-a : tie.Need-slice-write-a Inv-loop μ-loop
 slice-write-a c = omega (arith, c .before .loop .inv .2)
 
--- src/clearing.rt:15:9
 add-i : tie.Need-add-i Inv-loop μ-loop
 add-i c = search needs
 
--- src/clearing.rt:13:5
 loop-less : tie.Need-loop-less Inv-loop μ-loop
 loop-less c = omega arith
 
--- src/clearing.rt:13:5
 loop-again : tie.Need-loop-again Inv-loop μ-loop
 loop-again c =
     let l = c .before .loop in
     (omega arith, ap (λ (xs : List ℕ). set xs (l .i) 0) (l .inv .1) ∙ fill-more (l .i) 0 (c .before .before .args .a .now) (omega arith), length-set (l .a) (l .i) 0 ∙ l .inv .2)
 
--- src/clearing.rt:8:1
 same-length : tie.Need-same-length Inv-loop μ-loop
 same-length c = c .before .loop .inv .2
 
--- src/clearing.rt:8:1
 returns : tie.Need-returns Inv-loop μ-loop
 returns c = let l = c .before .loop in let e : l .i ≡ c .before .before .args .n = omega arith in rw e at (l .inv .1)
 

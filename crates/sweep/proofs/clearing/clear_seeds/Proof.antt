@@ -16,37 +16,29 @@ Inv-loop a₀ i₀ a i = (i ≤ length a₀) × (a ≡ replicate i 0 ++ drop i a
 abbrev μ-loop : tie.MeasureT-loop
 μ-loop a₀ i₀ a i = length a₀ - i
 
--- src/clearing.rt:24:5
 loop-holds : tie.Need-loop-holds Inv-loop μ-loop
 loop-holds c = (omega arith, fill-none (c .args .a .now) 0, refl)
 
--- src/clearing.rt:25:9
 mul-a : tie.Need-mul-a Inv-loop μ-loop
 mul-a c = search needs
 
--- src/clearing.rt:25:9
 slice-write-a : tie.Need-slice-write-a Inv-loop μ-loop
 slice-write-a c = search needs
 
--- src/clearing.rt:26:9
 add-i : tie.Need-add-i Inv-loop μ-loop
 add-i c = search needs
 
--- src/clearing.rt:24:5
 loop-less : tie.Need-loop-less Inv-loop μ-loop
 loop-less c = omega (arith, c .before .loop .inv .2)
 
--- src/clearing.rt:24:5
 loop-again : tie.Need-loop-again Inv-loop μ-loop
 loop-again c =
     let l = c .before .loop in
     (omega (arith, l .inv .2), ap (λ (xs : List ℕ). set xs (l .i) 0) (l .inv .1) ∙ fill-more (l .i) 0 (c .before .before .args .a .now) (omega (arith, l .inv .2)), length-set (l .a) (l .i) 0 ∙ l .inv .2)
 
--- src/clearing.rt:20:1
 same-length : tie.Need-same-length Inv-loop μ-loop
 same-length c = c .before .loop .inv .2
 
--- src/clearing.rt:20:1
 returns : tie.Need-returns Inv-loop μ-loop
 returns c =
     let l = c .before .loop in

@@ -19,43 +19,33 @@ Inv-loop begins seeds placed₀ bumped₀ zero₀ b₀ placed bumped zero b = (b
 abbrev μ-loop : tie.MeasureT-loop
 μ-loop begins seeds placed₀ bumped₀ zero₀ b₀ placed bumped zero b = length seeds - b
 
--- src/counting.rt:18:5
 loop-holds : tie.Need-loop-holds Inv-loop μ-loop
 loop-holds c = (omega arith, counted-none _ _, omega arith, omega arith, omega arith)
 
--- src/counting.rt:19:20
 size-of-requires : tie.Need-size-of-requires Inv-loop μ-loop
 size-of-requires c κs = regular-grouped (c .before .before .before .before .pre) (c .loop-test .taken)
 
--- src/counting.rt:20:12
 mul-if1 : tie.Need-mul-if1 Inv-loop μ-loop
 mul-if1 c = search needs
 
--- src/counting.rt:20:12
 shared-slice-read-if1 : tie.Need-shared-slice-read-if1 Inv-loop μ-loop
 shared-slice-read-if1 c = search needs
 
--- src/counting.rt:21:13
 add-bumped : tie.Need-add-bumped Inv-loop μ-loop
 add-bumped c = omega (arith, c .before .before .before .before .loop .inv .3, c .before .before .size-of .ensures .1, c .before .before .before .before .before .before .before .pre .few, c .before .before .before .loop-test .taken)
 
--- src/counting.rt:22:13
 add-zero : tie.Need-add-zero Inv-loop μ-loop
 add-zero c = omega (arith, c .before .before .before .before .loop .inv .4)
 
--- src/counting.rt:24:13
 add-placed : tie.Need-add-placed Inv-loop μ-loop
 add-placed c = omega (arith, c .before .before .before .before .loop .inv .2, c .before .before .size-of .ensures .1, c .before .before .before .before .before .before .before .pre .few, c .before .before .before .loop-test .taken)
 
--- src/counting.rt:26:9
 add-b : tie.Need-add-b Inv-loop μ-loop
 add-b c = search needs
 
--- src/counting.rt:18:5
 loop-less : tie.Need-loop-less Inv-loop μ-loop
 loop-less c = omega arith
 
--- src/counting.rt:18:5
 loop-again : tie.Need-loop-again Inv-loop μ-loop
 loop-again c =
     let l = c .before .before .before .before .loop in
@@ -66,7 +56,6 @@ loop-again c =
     (λ w. (omega arith, counted-as (counted-placed (l .inv .1) e (w .0 .left)) (w .1) (w .2) (w .3), omega (arith, w .1), omega (arith, w .2), omega (arith, w .3)))
     (c .if1 .came)
 
--- src/counting.rt:10:1
 returns : tie.Need-returns Inv-loop μ-loop
 returns c = let l = c .before .loop in let e : l .b ≡ length (c .before .before .before .before .args .seeds .now) = omega arith in subst (λ (n : ℕ). Counted (c .before .before .before .before .args .begins .now) (c .before .before .before .before .args .seeds .now) n (countsAt (l .placed) (l .bumped) (l .zero))) e (l .inv .1)
 

@@ -20,41 +20,32 @@ Inv-loop ring work₀ bitmap first-slot o to column at₀ work at = (length work
 abbrev μ-loop : tie.MeasureT-loop
 μ-loop ring work₀ bitmap first-slot o to column at₀ work at = to - at
 
--- src/moving.rt:38:14
 first-requires : tie.Need-first-requires Inv-loop μ-loop
 first-requires c κs = search needs
 
--- src/moving.rt:39:9
 column-slots-requires : tie.Need-column-slots-requires Inv-loop μ-loop
 column-slots-requires c κs = c .before .before .before .pre .1 .0
 
--- src/moving.rt:41:5
 loop-holds : tie.Need-loop-holds Inv-loop μ-loop
 loop-holds c = (refl, omega (arith, c .before .first .ensures .0, c .before .before .before .before .pre .1 .1 .0 .2), c .before .before .before .before .pre .1 .1 .1)
 
--- src/moving.rt:41:11
 add-loop : tie.Need-add-loop Inv-loop μ-loop
 add-loop c = omega (arith, c .loop .inv .1, c .before .before .first .ensures .1, sized (c .before .before .before .before .before .args .g) (c .before .before .before .before .before .pre .0) .ns-high, c .before .column-slots .ensures .1)
 
--- src/moving.rt:42:9
 retire-requires : tie.Need-retire-requires Inv-loop μ-loop
 retire-requires c κs =
     let s = c .before .before .before .before .before .before .before in
     (s .pre .1 .0, ((omega (arith, c .before .before .loop .inv .0, s .pre .1 .1 .0 .0), omega (arith, c .before .before .loop .inv .1, c .before .before .before .before .first .ensures .1, sized (s .args .g) (s .pre .0) .ns-high)), c .before .before .loop .inv .2))
 
--- src/moving.rt:41:5
 loop-less : tie.Need-loop-less Inv-loop μ-loop
 loop-less c = omega (arith, pow-pos (c .before .before .before .before .before .before .before .before .before .before .args .ring .t), c .before .before .retire .ensures .0 .0, c .before .before .before .before .before .before .column-slots .ensures .0, c .before .before .before .before .loop-test .taken, c .before .before .before .before .before .loop .inv .1)
 
--- src/moving.rt:41:5
 loop-again : tie.Need-loop-again Inv-loop μ-loop
 loop-again c = (c .before .before .retire .kept .1 .0 ∙ c .before .before .before .before .before .loop .inv .0, omega (arith, c .before .before .retire .ensures .0 .0, c .before .before .before .before .before .before .column-slots .ensures .0, c .before .before .before .before .loop-test .taken), c .before .before .retire .ensures .0 .1)
 
--- src/moving.rt:23:1
 same-length : tie.Need-same-length Inv-loop μ-loop
 same-length c = c .before .loop .inv .0
 
--- src/moving.rt:23:1
 returns : tie.Need-returns Inv-loop μ-loop
 returns c = ((omega (arith, c .before .before .before .first .ensures .0, c .before .loop .inv .1), omega (arith, c .before .before .before .first .ensures .0, c .before .before .column-slots .ensures .0, c .loop-test .left)), c .before .loop .inv .2)
 

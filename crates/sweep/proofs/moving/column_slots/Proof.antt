@@ -9,11 +9,9 @@ use Rattle.sweep.proofs.moving.column_slots.Tie as tie
 use Rattle.sweep.proofs.moving.column_slots.Reads as reads
 use Rattle.sweep.proofs.moving.column_slots.Lts as lts
 
--- src/moving.rt:21:5
 shl-result : tie.Need-shl-result
 shl-result c = omega (arith, c .before .pre .stride)
 
--- src/moving.rt:17:1
 returns : tie.Need-returns
 returns c =
     let s = c .before in

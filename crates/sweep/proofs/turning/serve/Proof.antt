@@ -8,45 +8,36 @@ use Rattle.sweep.proofs.turning.serve.Reads as reads
 use Rattle.sweep.proofs.turning.serve.Lts as lts
 use Rattle.groups.proofs.keys_of.Reads as keys-of-reads
 
--- src/turning.rt:66:9
 keys-of-requires : tie.Need-keys-of-requires
 keys-of-requires c κs = let w = c .before .before .before .before .before .before .pre .1 in level-groups (w .level) _ (w .turn .high)
 
--- src/turning.rt:67:9
 search-requires : tie.Need-search-requires
 search-requires c κs =
     let w = c .before .before .before .before .before .before .before .before .before .pre .1 in
     record { i = w .i; marked = _; first = _; ready = asked (w .level) (w .buffers) (w .turn) (c .before .before .before .before .before .before .before .before .before .pre .0) (c .before .before .keys-of .ensures) }
 
--- src/turning.rt:68:16
 cast-seeds : tie.Need-cast-seeds
 cast-seeds c =
     let w = c .before .before .before .before .before .before .before .before .before .before .before .before .before .before .pre .1 in
     omega (arith, c .before .before .before .before .search .ensures (w .i) _ _ (asked (w .level) (w .buffers) (w .turn) (c .before .before .before .before .before .before .before .before .before .before .before .before .before .before .pre .0) (c .before .before .before .before .before .before .before .keys-of .ensures)) .small)
 
--- src/turning.rt:68:5
 mul-seeds : tie.Need-mul-seeds
 mul-seeds c = search needs
 
--- src/turning.rt:68:5
 slice-write-seeds : tie.Need-slice-write-seeds
 slice-write-seeds c = let w = c .before .before .before .before .before .before .before .before .before .before .before .before .before .before .pre .1 in seed-room (w .level) (w .buffers) (w .turn)
 
--- src/turning.rt:46:1
 same-length : tie.Need-same-length
 same-length c = search needs
 
--- src/turning.rt:46:1
 same-length-2 : tie.Need-same-length-2
 same-length-2 c = search needs
 
--- src/turning.rt:46:1
 same-length-3 : tie.Need-same-length-3
 same-length-3 c = search needs
 
--- src/turning.rt:46:1
 returns : tie.Need-returns
-returns c = λ i lo hi k first l f t. answered l f t (c .before .before .before .before .search .ensures i _ first (asked l f t (c .before .before .before .before .before .before .before .before .before .before .before .before .before .before .pre .0) (c .before .before .before .before .before .before .before .keys-of .ensures)))
+returns c = λ i pre lo hi k first l f t. answered l f t (c .before .before .before .before .search .ensures i _ first (asked l f t (c .before .before .before .before .before .before .before .before .before .before .before .before .before .before .pre .0) (c .before .before .before .before .before .before .before .keys-of .ensures)))
 
 pub serve-spec : {M : Type 1} → statement M
 serve-spec =

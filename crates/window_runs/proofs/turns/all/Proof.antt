@@ -14,56 +14,46 @@ use Rattle.window.proofs.take.Reads as take-reads
 use Rattle.window_runs.proofs.put.Reads as put-reads
 
 abbrev Inv-loop : tie.InvT-loop
-Inv-loop queues₀ heads₀ lengths₀ keys₀ table set₀ large₀ begins hi v₀ turn₀ queues heads lengths keys set large v turn =
-    Waiting begins table hi (state queues heads lengths keys set large v)
+Inv-loop queues₀ heads₀ lengths₀ keys₀ table set₀ begins hi v₀ turn₀ queues heads lengths keys set v turn =
+    Waiting begins table hi (state queues heads lengths keys set v)
 
 abbrev μ-loop : tie.MeasureT-loop
-μ-loop queues₀ heads₀ lengths₀ keys₀ table set₀ large₀ begins hi v₀ turn₀ queues heads lengths keys set large v turn = hi - turn
+μ-loop queues₀ heads₀ lengths₀ keys₀ table set₀ begins hi v₀ turn₀ queues heads lengths keys set v turn = hi - turn
 
--- src/turns.rt:25:5
 loop-holds : tie.Need-loop-holds Inv-loop μ-loop
 loop-holds c = c .before .pre
 
--- src/turns.rt:26:9
 refill-requires : tie.Need-refill-requires Inv-loop μ-loop
-refill-requires c κs = c .before .before .before .before .before .before .before .loop .inv
+refill-requires c κs = c .before .before .before .before .before .before .loop .inv
 
--- src/turns.rt:38:12
 is-empty-requires : tie.Need-is-empty-requires Inv-loop μ-loop
 is-empty-requires c κs = search needs
 
--- src/turns.rt:39:13
 returns : tie.Need-returns Inv-loop μ-loop
 returns c = search needs
 
--- src/turns.rt:41:13
 take-requires : tie.Need-take-requires Inv-loop μ-loop
 take-requires c κs =
-    let d = c .before .before .before .before .before .before .before .before .before .before .before .before .before .before .before .before .loop .inv in (
-      record { i = d .i; lo = d .lo; k = d .k; ranged = d .ranged; full = c .before .before .before .before .before .before .before .before .refill .ensures (d .i) (d .lo) (d .k) (d .ranged) (d .windowed) },
-      not-empty (c .before .before .before .before .before .before .before .before .refill .result .nonempty) (c .before .before .before .before .before .before .before .before .refill .result .large) (sym (c .before .before .before .before .before .before .before .is-empty .ensures .0) ∙ c .before .before .before .before .before .before .if1 .left),
+    let d = c .before .before .before .before .before .before .before .before .before .before .before .before .before .before .loop .inv in (
+      record { i = d .i; lo = d .lo; k = d .k; ranged = d .ranged; full = c .before .before .before .before .before .before .before .refill .ensures (d .i) (d .lo) (d .k) (d .ranged) (d .windowed) },
+      not-empty (c .before .before .before .before .before .before .before .refill .result .nonempty) (c .before .before .before .before .before .before .before .refill .result .large) (sym (c .before .before .before .before .before .before .is-empty .ensures .0) ∙ c .before .before .before .before .before .if1 .left),
     )
 
--- src/turns.rt:55:9
 put-requires : tie.Need-put-requires Inv-loop μ-loop
 put-requires c κs = search needs
 
--- src/turns.rt:56:9
 add-turn : tie.Need-add-turn Inv-loop μ-loop
-add-turn c = omega (arith, c .before .before .before .before .before .before .before .before .before .before .before .before .before .before .before .before .before .before .loop-test .taken, c .before .before .before .before .before .before .before .before .before .before .before .before .before .before .before .before .before .before .before .before .before .fits .hi .fits)
+add-turn c = omega (arith, c .before .before .before .before .before .before .before .before .before .before .before .before .before .before .before .before .loop-test .taken, c .before .before .before .before .before .before .before .before .before .before .before .before .before .before .before .before .before .before .before .fits .hi .fits)
 
--- src/turns.rt:25:5
 loop-less : tie.Need-loop-less Inv-loop μ-loop
-loop-less c = omega (arith, c .before .before .before .before .before .before .before .before .before .before .before .before .before .before .before .before .before .before .loop-test .taken)
+loop-less c = omega (arith, c .before .before .before .before .before .before .before .before .before .before .before .before .before .before .before .before .loop-test .taken)
 
--- src/turns.rt:25:5
 loop-again : tie.Need-loop-again Inv-loop μ-loop
 loop-again c =
-    let d = c .before .before .before .before .before .before .before .before .before .before .before .before .before .before .before .before .before .before .before .loop .inv in
-    let t = c .before .before .take .ensures .0 (d .i) (d .lo) (d .k) (d .ranged) (c .before .before .before .before .before .before .before .before .before .before .before .refill .ensures (d .i) (d .lo) (d .k) (d .ranged) (d .windowed)) in
+    let d = c .before .before .before .before .before .before .before .before .before .before .before .before .before .before .before .before .before .loop .inv in
+    let t = c .before .before .take .ensures .0 (d .i) (d .lo) (d .k) (d .ranged) (c .before .before .before .before .before .before .before .before .before .before .refill .ensures (d .i) (d .lo) (d .k) (d .ranged) (d .windowed)) in
     record { i = d .i; lo = d .lo; k = d .k + 1; ranged = d .ranged; windowed = t .windowed }
 
--- src/turns.rt:9:1
 returns-2 : tie.Need-returns-2 Inv-loop μ-loop
 returns-2 c = search needs
 

@@ -8,17 +8,14 @@ use Rattle.window_runs.proofs.turns.order.Lts as lts
 use Rattle.window.proofs.rule.weight_table.Reads as weight-table-reads
 use Rattle.window_runs.proofs.turns.all.Reads as all-reads
 
--- src/turns.rt:66:17
 weight-table-requires : tie.Need-weight-table-requires
 weight-table-requires c κs = search needs
 
--- src/turns.rt:79:5
 all-requires : tie.Need-all-requires
 all-requires c κs =
-    let s = c .before .before .before .before .before .before .before .before .before in
-    begun (s .args .weights) (now (s .args .begins)) (c .before .before .before .before .before .before .before .weight-table .result) (s .args .lo) (s .args .hi) (s .pre .0) (s .pre .1 .0) (c .before .before .before .before .before .before .before .weight-table .ensures) (s .pre .1 .1 .0) (s .pre .1 .1 .1)
+    let s = c .before .before .before .before .before .before .before .before in
+    begun (s .args .weights) (now (s .args .begins)) (c .before .before .before .before .before .before .weight-table .result) (s .args .lo) (s .args .hi) (s .pre .0) (s .pre .1 .0) (c .before .before .before .before .before .before .weight-table .ensures) (s .pre .1 .1 .0) (s .pre .1 .1 .1)
 
--- src/turns.rt:61:1
 returns : tie.Need-returns
 returns c = search needs
 

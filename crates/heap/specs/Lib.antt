@@ -1,3 +1,0 @@
--- What the contracts of `heap` cite, and the laws behind them.
-pub mod Keys
-pub mod Ordered
