@@ -63,7 +63,7 @@ static void make(uint64_t keys) {
     uint16_t *seeds = room(buckets, sizeof *seeds);
     uint64_t *bitmap = room(sizes[2], sizeof *bitmap), *work = room(sizes[0], sizeof *work);
     phastr_house_table(table);
-    number = phastr_sweep(keys, 10, 2, 8, buckets, weights, true, hashes, keys, begins, buckets + 1, table, PHASTR_HOUSE_ENTRIES, seeds,
+    number = phastr_sweep(keys, 10, 2, 8, buckets, weights, true, 1, hashes, keys, begins, buckets + 1, table, PHASTR_HOUSE_ENTRIES, seeds,
                           buckets, bitmap, sizes[2], work, sizes[0], counts, &bucket);
     if (number)
         fail("sweep", number);
