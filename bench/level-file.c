@@ -1,7 +1,7 @@
 /*
  * A level of many keys as a file. The driver makes it once; the count is of the two calls alone.
  *
- *   cc -std=c99 -O2 -Iinclude bench/level-file.c "$(tools/library)/libexports.a" -o target/c/level-file
+ *   cc -std=c99 -O2 -Iinclude bench/level-file.c "$(tools/library)/libphastr.a" -o target/c/level-file
  *   target/c/level-file make 10000000 >target/level
  *   valgrind --tool=callgrind --callgrind-out-file=/dev/null --toggle-collect=phastr_level_read target/c/level-file again <target/level
  *   valgrind --tool=callgrind --callgrind-out-file=/dev/null --toggle-collect=phastr_level_write target/c/level-file again <target/level
@@ -41,10 +41,12 @@ static int ascending(const void *a, const void *b) {
 
 static void make(uint64_t keys) {
     static const int64_t weights[7] = {-52000, 53315, 105861, 138629, 156944, 175176, 186591};
-    uint64_t buckets = 0, sizes[3], counts[3], bucket, largest = 0, count = 0, written = 0, number;
-    number = phastr_bucket_count(10, keys, 4.25, &buckets);
+    struct phastr_settings s = {keys, 10, 2, 8, 0};
+    uint64_t sizes[3], counts[3], bucket, largest = 0, count = 0, written = 0, number;
+    number = phastr_bucket_count(s.log2_slice_len, keys, 4.25, &s.buckets);
     if (number)
         fail("buckets", number);
+    const uint64_t buckets = s.buckets;
     uint64_t *hashes = room(keys, sizeof *hashes);
     uint32_t *begins = room(buckets + 1, sizeof *begins), table[PHASTR_HOUSE_ENTRIES];
     for (uint64_t i = 0; i < keys; i++)
@@ -57,13 +59,13 @@ static void make(uint64_t keys) {
             largest = begins[b + 1];
         begins[b + 1] += begins[b];
     }
-    number = phastr_sizes(keys, 10, 2, 8, buckets, largest, sizes);
+    number = phastr_sizes(PHASTR_SETTINGS(s), largest, sizes);
     if (number)
         fail("sizes", number);
     uint16_t *seeds = room(buckets, sizeof *seeds);
     uint64_t *bitmap = room(sizes[2], sizeof *bitmap), *work = room(sizes[0], sizeof *work);
     phastr_house_table(table);
-    number = phastr_sweep(keys, 10, 2, 8, buckets, weights, true, 1, hashes, keys, begins, buckets + 1, table, PHASTR_HOUSE_ENTRIES, seeds,
+    number = phastr_sweep(PHASTR_SETTINGS(s), weights, true, 1, hashes, keys, begins, buckets + 1, table, PHASTR_HOUSE_ENTRIES, seeds,
                           buckets, bitmap, sizes[2], work, sizes[0], counts, &bucket);
     if (number)
         fail("sweep", number);
@@ -73,7 +75,7 @@ static void make(uint64_t keys) {
         fail("holes", number);
     uint64_t bytes = 16 + 3 * buckets + 4 * count;
     uint8_t *out = room(bytes, 1);
-    number = phastr_level_write(keys, 10, 2, 8, buckets, seeds, buckets, holes, count, out, bytes, &written);
+    number = phastr_level_write(PHASTR_SETTINGS(s), seeds, buckets, holes, count, out, bytes, &written);
     if (number)
         fail("write", number);
     fwrite(out, 1, written, stdout);
@@ -93,10 +95,11 @@ static void again(void) {
     number = phastr_level_read(in, bytes, seeds, bytes, holes, bytes, level);
     if (number)
         fail("read", number);
-    number = phastr_level_write(level[0], level[1], level[2], level[3], level[4], seeds, level[4], holes, level[5], out, bytes, &written);
+    const struct phastr_settings s = {level[0], level[1], level[2], level[3], level[4]};
+    number = phastr_level_write(PHASTR_SETTINGS(s), seeds, s.buckets, holes, level[5], out, bytes, &written);
     if (number || written != bytes || memcmp(in, out, bytes))
         fail("another file was written", number);
-    printf("%" PRIu64 " bytes: %" PRIu64 " seeds, %" PRIu64 " holes, the same again\n", bytes, level[4], level[5]);
+    printf("%" PRIu64 " bytes: %" PRIu64 " seeds, %" PRIu64 " holes, the same again\n", bytes, s.buckets, level[5]);
 }
 
 int main(int argc, char **argv) {

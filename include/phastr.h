@@ -6,16 +6,22 @@
  * slots at the least cost. A bucket that no seed fits is bumped, its keys being left to another
  * level; slots that no key took are holes. examples/c/level.c shows the whole way.
  *
- * Link libexports.a (tools/library makes it); it needs memcpy and memset of the C library alone.
+ * Link libphastr.a (tools/library makes it); it needs memcpy and memset of the C library alone.
+ * docs/RULES.md has the rules that a level follows, and each number with what to do about it.
  *
- * Settings. Every call takes the level's settings in this order:
- *   m               slots: 1 to 2^27
+ * Settings. Every call takes the level's settings one by one, in this order, which is that of struct
+ * phastr_settings; PHASTR_SETTINGS(s) writes the five of a struct s out.
+ *   m               slots, 1 to 2^27: as many as keys, and 1 where there are none. The few keys of a
+ *                   last level want room: n + n/4 + 16 slots for n of them.
  *   log2_slice_len  3 to 16 (PHastR's default 10); small levels have shorter slices
  *   ll              the base-2 logarithm of the layouts: below sb, and log2_slice_len * 2^ll at most
  *                   64 (default 2)
  *   sb              bits of a seed: 2 to 16 (default 8)
- *   buckets         B: odd, at most 67,108,865
+ *   buckets         B: odd, at most 67,108,865 (phastr_bucket_count says how many)
  * A hash's bucket is the high half of the 128-bit product of hash and B.
+ *
+ * Bumped keys go to a further level under new hashes, by a salt of that level's own: under the same
+ * hashes they would fall together again.
  *
  * Answers. Every call but phastr_house_table answers 0 or one of the numbers below, the first that
  * applies in the order in which the call names them. It writes only what its comment names, and
@@ -32,7 +38,7 @@
  *     is lent to the same call;
  *   - no other thread writes what is lent, or reads what is lent for writing, during the call.
  * The calls keep nothing between them and allocate nothing. They may run at the same time on
- * different memory.
+ * different memory. A sweep takes less than 32 KB of stack, every other call less than 1 KB.
  */
 #ifndef PHASTR_H
 #define PHASTR_H
@@ -45,39 +51,118 @@
 extern "C" {
 #endif
 
-/* The numbers of documents 01 and 02, and their words. 18 and 19 are the sweep list program's alone. */
+/* The version of this header, of its library and of the Rust crate over it; as a number
+   10,000 * major + 100 * minor + patch. */
+#define PHASTR_VERSION "0.1.0"
+#define PHASTR_VERSION_NUMBER 100
+
+/* The settings of a level. */
+struct phastr_settings {
+    uint64_t m, log2_slice_len, ll, sb, buckets;
+};
+
+/* The five settings of a struct phastr_settings, as the calls take them:
+   phastr_lookup(PHASTR_SETTINGS(s), seeds, seeds_len, hash, &slot). */
+#define PHASTR_SETTINGS(s) (s).m, (s).log2_slice_len, (s).ll, (s).sb, (s).buckets
+
+/* The numbers that calls answer; phastr_number_words tells them in words. 18 and 19 are the sweep list
+   program's alone. */
 enum phastr_number {
     PHASTR_OK = 0,
-    PHASTR_SEED_BITS = 1,          /* sb outside 2..16 */
-    PHASTR_LAYOUTS = 2,            /* ll >= sb */
-    PHASTR_SLICE_LEN = 3,          /* log2_slice_len outside 3..16 */
-    PHASTR_LAYOUT_BITS = 4,        /* ll > 6, or log2_slice_len * 2^ll > 64 */
-    PHASTR_SLOTS = 5,              /* m outside 1..134,217,728 */
-    PHASTR_BUCKETS = 6,            /* B even or above 67,108,865 (0 is even) */
-    PHASTR_SLICES_PER_BUCKET = 7,  /* p > 4,096, where p = ceil((m + 1 - l) / B), l the slice length */
-    PHASTR_WEIGHTS = 8,            /* a weight beyond +-2^32 */
-    PHASTR_BEGINS = 9,             /* begins not B+1 long, not starting at 0, falling, or not ending at
-                                      the hash count; or more than 67,108,864 hashes */
-    PHASTR_LARGE_BUCKET = 10,      /* a bucket of more than 4,096 keys */
-    PHASTR_STRAY_HASH = 11,        /* a hash outside its bucket */
-    PHASTR_TABLE = 12,             /* table too short, or falling within the entries needed */
-    PHASTR_LENGTHS = 13,           /* seeds not B long, bitmap not ceil(m/64) long, or work under W */
-    PHASTR_NO_SEED = 14,           /* bumping forbidden and the bucket taken gets 0 */
-    PHASTR_HOLE_BUFFER = 15,       /* hole list longer than its buffer */
-    PHASTR_BUCKET_SIZE = 16,       /* bucket size not in 1 to min(2^log2_slice_len/8, 64), NaN included */
-    PHASTR_KEYS = 17,              /* k above 67,108,864 */
-    PHASTR_CHUNKS = 20,            /* chunk count 0 */
-    PHASTR_TABLE_LENGTH = 21,      /* length 0 or above 131,072 */
-    PHASTR_FILE_SHORT = 22,        /* file ends or a number exceeds 64 bits or ten groups */
-    PHASTR_FILE_VERSION = 23,      /* version not 1 */
-    PHASTR_FILE_VALUE = 24,        /* a seed of 2^sb or more, a hole count above m, or a hole not rising
-                                      or not below m */
-    PHASTR_FILE_LEFT_OVER = 25,    /* bytes left over after the last hole */
-    PHASTR_FILE_ROOM = 26,         /* a lent output too small */
-    PHASTR_BAD_SEED = 28,          /* a seed of 2^sb or more, or a nonzero one for an empty bucket */
-    PHASTR_SLOT_TWICE = 29,        /* a slot met twice */
-    PHASTR_BITMAP = 30             /* bitmap differs */
+    PHASTR_SEED_BITS = 1,
+    PHASTR_LAYOUTS = 2,
+    PHASTR_SLICE_LEN = 3,
+    PHASTR_LAYOUT_BITS = 4,
+    PHASTR_SLOTS = 5,
+    PHASTR_BUCKETS = 6,
+    PHASTR_SLICES_PER_BUCKET = 7,
+    PHASTR_WEIGHTS = 8,
+    PHASTR_BEGINS = 9,
+    PHASTR_LARGE_BUCKET = 10,
+    PHASTR_STRAY_HASH = 11,
+    PHASTR_TABLE = 12,
+    PHASTR_LENGTHS = 13,
+    PHASTR_NO_SEED = 14,
+    PHASTR_HOLE_BUFFER = 15,
+    PHASTR_BUCKET_SIZE = 16,
+    PHASTR_KEYS = 17,
+    PHASTR_CHUNKS = 20,
+    PHASTR_TABLE_LENGTH = 21,
+    PHASTR_FILE_SHORT = 22,
+    PHASTR_FILE_VERSION = 23,
+    PHASTR_FILE_VALUE = 24,
+    PHASTR_FILE_LEFT_OVER = 25,
+    PHASTR_FILE_ROOM = 26,
+    PHASTR_BAD_SEED = 28,
+    PHASTR_SLOT_TWICE = 29,
+    PHASTR_BITMAP = 30
 };
+
+/* A number in words, for people. docs/RULES.md says what to do about it. */
+static inline const char *phastr_number_words(uint64_t number) {
+    switch (number) {
+    case PHASTR_OK:
+        return "done";
+    case PHASTR_SEED_BITS:
+        return "sb is not 2 to 16";
+    case PHASTR_LAYOUTS:
+        return "ll is not below sb";
+    case PHASTR_SLICE_LEN:
+        return "log2_slice_len is not 3 to 16";
+    case PHASTR_LAYOUT_BITS:
+        return "ll is above 6, or log2_slice_len * 2^ll is above 64";
+    case PHASTR_SLOTS:
+        return "m is not 1 to 134,217,728";
+    case PHASTR_BUCKETS:
+        return "buckets is even or above 67,108,865";
+    case PHASTR_SLICES_PER_BUCKET: /* p = ceil((m + 1 - l) / B), l the slice length */
+        return "buckets are too few for m: one spans more than 4,096 slices";
+    case PHASTR_WEIGHTS:
+        return "a weight lies beyond 2^32 or -2^32";
+    case PHASTR_BEGINS:
+        return "begins has not B + 1 numbers, does not start at 0, falls, or does not end with the "
+               "number of hashes; or there are more than 67,108,864 hashes";
+    case PHASTR_LARGE_BUCKET:
+        return "a bucket has more than 4,096 keys";
+    case PHASTR_STRAY_HASH:
+        return "a hash stands in a bucket that is not its own";
+    case PHASTR_TABLE:
+        return "the table has too few entries, or falls among those that are needed";
+    case PHASTR_LENGTHS:
+        return "seeds, bitmap, work or slots have not the length that is wanted";
+    case PHASTR_NO_SEED:
+        return "bumping is forbidden and no seed fits a bucket";
+    case PHASTR_HOLE_BUFFER:
+        return "there are more holes than the buffer takes";
+    case PHASTR_BUCKET_SIZE:
+        return "the bucket size is no number from 1 to 64, or above an eighth of 2^log2_slice_len";
+    case PHASTR_KEYS:
+        return "there are more than 67,108,864 keys";
+    case PHASTR_CHUNKS:
+        return "chunks is 0";
+    case PHASTR_TABLE_LENGTH:
+        return "a table has no entries, or more than 131,072";
+    case PHASTR_FILE_SHORT:
+        return "the file ends too early, or has a number of over 64 bits or ten groups";
+    case PHASTR_FILE_VERSION:
+        return "the file's version is not 1";
+    case PHASTR_FILE_VALUE:
+        return "a seed has more than sb bits, there are more holes than slots, or a hole does not rise "
+               "or is no slot";
+    case PHASTR_FILE_LEFT_OVER:
+        return "bytes are left over after the file's last hole";
+    case PHASTR_FILE_ROOM:
+        return "what is lent has no room for the file, or for what it has";
+    case PHASTR_BAD_SEED:
+        return "a seed has more than sb bits, or an empty bucket has one that is not 0";
+    case PHASTR_SLOT_TWICE:
+        return "two keys share a slot";
+    case PHASTR_BITMAP:
+        return "the bitmap does not mark just the keys' slots";
+    default:
+        return "no number of this library";
+    }
+}
 
 /* The slot of a hash whose bucket has seed 0: it was bumped, or is empty. */
 #define PHASTR_BUMPED UINT64_MAX

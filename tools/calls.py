@@ -13,7 +13,7 @@ def opened():
     folder = subprocess.run([ROOT / "tools" / "library"], check=True, stdout=subprocess.PIPE, text=True).stdout.split()[-1]
     shared = ROOT / "target" / "shared" / "libphastr.so"
     shared.parent.mkdir(parents=True, exist_ok=True)
-    whole = ["-Wl,--whole-archive", f"{folder}/libexports.a", "-Wl,--no-whole-archive"]
+    whole = ["-Wl,--whole-archive", f"{folder}/libphastr.a", "-Wl,--no-whole-archive"]
     subprocess.run(["cc", "-shared", "-o", shared, *whole], check=True)
     loaded = ctypes.CDLL(str(shared))
     loaded.phastr_sweep.restype = loaded.phastr_check_level.restype = ctypes.c_uint64
@@ -39,7 +39,8 @@ def check_level(lib, s, hashes, begins, seeds, bitmap, scratch):
 
 
 def words(number):
-    """What include/phastr.h says of a number."""
+    """What include/phastr.h says of a number (phastr_number_words)."""
     header = (ROOT / "include" / "phastr.h").read_text()
-    found = re.search(rf"PHASTR_\w+ = {number},?\s*/\*(.*?)\*/", header, re.S)
-    return re.sub(r"\s+", " ", found[1]).strip() if found else ""
+    name = re.search(rf"^    (PHASTR_\w+) = {number}\b", header, re.M)[1]
+    said = re.search(rf"case {name}:.*?return (.*?);\n", header, re.S)[1]
+    return "".join(re.findall(r'"([^"]*)"', said))

@@ -33,7 +33,7 @@ def built():
     folder = os.environ.get("PHASTR_LIB")
     if not folder:
         folder = subprocess.run([ROOT / "tools/library"], check=True, stdout=subprocess.PIPE, text=True).stdout.strip()
-    program, source, library = ROOT / "target/c/level-file-cases", ROOT / "tools/level-file-cases.c", Path(folder, "libexports.a")
+    program, source, library = ROOT / "target/c/level-file-cases", ROOT / "tools/level-file-cases.c", Path(folder, "libphastr.a")
     inputs = (source, library, ROOT / "include/phastr.h")
     if not program.exists() or any(file.stat().st_mtime > program.stat().st_mtime for file in inputs):
         program.parent.mkdir(parents=True, exist_ok=True)

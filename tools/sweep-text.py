@@ -3,6 +3,9 @@ import sys
 
 SETTINGS = ['m', 'log2_slice_len', 'll', 'sb', 'bump', 'weights']
 
+# As many as a text may ask for by their number; the program itself takes 64.
+MOST_BUCKETS = 65536
+
 
 def stop(what):
     sys.exit(f'sweep-text: {what}')
@@ -39,29 +42,56 @@ def encoded(n):
     return groups
 
 
-def encode(text):
-    numbers, buckets, expected, at = [], [], list(SETTINGS), 0
+def lines_of(text):
+    """Each line that says something: where it stands, its name and its words."""
     for at, line in enumerate(text.split('\n'), 1):
         words = line.split('#')[0].split()
-        if not words:
-            continue
-        name, values, where = words[0], words[1:], f'line {at}'
-        wanted = expected[0] if expected else 'bucket'
+        if words:
+            yield f'line {at}', words[0], words[1:]
+
+
+def counted(name, values, count, where):
+    if len(values) != count:
+        stop(f'{where}: expected {count} number{"s"[count < 2:]} after {name!r} and found {len(values)}')
+
+
+def setting(name, values, where):
+    """The numbers of one line of the settings."""
+    counted(name, values, 7 if name == 'weights' else 1, where)
+    if name == 'weights':
+        return [folded(number(word, -2**63, 2**63 - 1, where)) for word in values]
+    return [natural(word, where) for word in values]
+
+
+def grouped(lines):
+    """The buckets' hashes, from one line a bucket or from a count of buckets and lines of keys."""
+    buckets, keys = [], False
+    for at, (where, name, values) in enumerate(lines):
+        wanted = ['keys'] if keys else ['bucket', 'buckets'][:2 - (at > 0)]
+        if name not in wanted:
+            stop(f'{where}: expected {" or ".join(map(repr, wanted))} and found {name!r}')
+        if name == 'buckets':
+            counted(name, values, 1, where)
+            keys, buckets = True, [[] for _ in range(number(values[0], 1, MOST_BUCKETS, where))]
+        elif name == 'bucket':
+            buckets.append([natural(word, where) for word in values])
+        else:
+            for word in values:
+                key = natural(word, where)
+                buckets[key * len(buckets) >> 64].append(key)
+    return buckets
+
+
+def encode(text):
+    numbers, lines, where = [], lines_of(text), 'line 0'
+    for wanted in SETTINGS:
+        where, name, values = next(lines, (where, None, []))
+        if name is None:
+            stop(f'after {where}: expected {wanted!r} and found the end')
         if name != wanted:
             stop(f'{where}: expected {wanted!r} and found {name!r}')
-        if name == 'bucket':
-            buckets.append([natural(word, where) for word in values])
-            continue
-        count = 7 if name == 'weights' else 1
-        if len(values) != count:
-            stop(f'{where}: expected {count} number{"s"[count < 2:]} after {name!r} and found {len(values)}')
-        if name == 'weights':
-            numbers += [folded(number(word, -2**63, 2**63 - 1, where)) for word in values]
-        else:
-            numbers += [natural(word, where) for word in values]
-        expected.pop(0)
-    if expected:
-        stop(f'after line {at}: expected {expected[0]!r} and found the end')
+        numbers += setting(name, values, where)
+    buckets = grouped(lines)
     numbers.append(len(buckets))
     for hashes in buckets:
         numbers += [len(hashes)] + hashes

@@ -2,7 +2,8 @@
 //! person; the words here are what it uses.
 //!
 //!     bench names                          the settings, one to a line
-//!     bench times KEYS                     nanoseconds a key of each job and setting, both sides
+//!     bench times KEYS                     nanoseconds a key, both sides: sweeps of all settings, other jobs of the
+//!                                          first
 //!     bench once SIDE JOB SETTING KEYS     one job of one side, for its instructions to be counted; with the
 //!                                          side 'neither' all but the job
 
@@ -24,14 +25,17 @@ fn best(mut run: impl FnMut()) -> f64 {
     (0..5).map(timed).fold(f64::INFINITY, f64::min)
 }
 
-/// Times each job on each of the settings, after seeing that both sides give the same.
+/// Times a sweep of each of the settings and the other jobs of the first, after seeing that both sides
+/// give the same.
 fn times(keys: usize) -> Result<(), String> {
-    for named in &settings::ALL {
+    for (at, named) in settings::ALL.iter().enumerate() {
+        eprintln!("bench: timing {} at {keys} keys", named.name);
         let mut bench = Bench::new(named.family(keys), Job::Holes);
         if !bench.same() {
             return Err(format!("{} {keys}: the two sides differ", named.name));
         }
-        for (name, job) in JOBS.into_iter().filter(|&(_, job)| job != Job::Checks) {
+        let timed = |job| job == Job::Sweep || at == 0 && job != Job::Checks;
+        for (name, job) in JOBS.into_iter().filter(|&(_, job)| timed(job)) {
             let ours = best(|| bench.ours(job)) / keys as f64;
             let rust = if job.of_both() { best(|| bench.rust(job)) / keys as f64 } else { 0.0 };
             println!("{name} {} {keys} {ours:.2} {rust:.2}", named.name);

@@ -19,15 +19,15 @@ fn folder() -> PathBuf {
 fn main() {
     println!("cargo:rerun-if-changed=build.rs");
     let folder = folder();
-    let library = folder.join("libexports.a");
+    let library = folder.join("libphastr.a");
     println!("cargo:rerun-if-changed={}", library.display());
     if !library.is_file() {
         eprintln!(
-            "phastr: no {}. Run tools/library, or set PHASTR_LIB to the folder that holds libexports.a",
+            "phastr: no {}. Run tools/library, or set PHASTR_LIB to the folder that holds libphastr.a",
             library.display()
         );
         process::exit(1);
     }
     println!("cargo:rustc-link-search=native={}", folder.display());
-    println!("cargo:rustc-link-lib=static=exports");
+    println!("cargo:rustc-link-lib=static=phastr");
 }

@@ -3,7 +3,7 @@
  * of 1,024 slots and in longer ones, and some more in two chunks.
  *
  *   folder=$(tools/library)
- *   cc -std=c99 -Wall -Wextra -Werror -Iinclude examples/c/level.c "$folder/libexports.a" -o level
+ *   cc -std=c99 -Wall -Wextra -Werror -Iinclude examples/c/level.c "$folder/libphastr.a" -o level
  *   ./level
  */
 #include <inttypes.h>
@@ -13,14 +13,9 @@
 
 #include "phastr.h"
 
-/* The settings of a level, as the calls take them. */
-struct settings {
-    uint64_t m, log2_slice_len, ll, sb, buckets;
-};
-
 /* All that a sweep reads and writes. */
 struct level {
-    struct settings s;
+    struct phastr_settings s;
     uint64_t *hashes;
     uint32_t *begins;
     uint64_t keys, largest;
@@ -31,7 +26,13 @@ struct level {
 };
 
 static void fail(const char *what, uint64_t number) {
-    fprintf(stderr, "%s: refused %" PRIu64 "\n", what, number);
+    fprintf(stderr, "%s: %s (number %" PRIu64 ")\n", what, phastr_number_words(number), number);
+    exit(1);
+}
+
+/* What a caller would never see of a proved library. */
+static void wrong(const char *what, uint64_t value) {
+    fprintf(stderr, "%s: %" PRIu64 "\n", what, value);
     exit(1);
 }
 
@@ -72,9 +73,9 @@ static void group(struct level *level) {
 
 /* Finds out what the sweep wants lent, lends it, and sweeps. */
 static void sweep(struct level *level, const int64_t weights[7], uint64_t chunks) {
-    const struct settings s = level->s;
+    const struct phastr_settings s = level->s;
     uint64_t sizes[3] = {0}, bucket = 0, number;
-    number = phastr_sizes(s.m, s.log2_slice_len, s.ll, s.sb, s.buckets, level->largest, sizes);
+    number = phastr_sizes(PHASTR_SETTINGS(s), level->largest, sizes);
     if (number != PHASTR_OK)
         fail("sizes", number);
     level->bitmap_words = sizes[2];
@@ -85,9 +86,9 @@ static void sweep(struct level *level, const int64_t weights[7], uint64_t chunks
     number = phastr_log_table(table, (size_t)sizes[1]);
     if (number != PHASTR_OK)
         fail("table", number);
-    number = phastr_sweep(s.m, s.log2_slice_len, s.ll, s.sb, s.buckets, weights, true, chunks,
-                          level->hashes, (size_t)level->keys, level->begins, (size_t)s.buckets + 1,
-                          table, (size_t)sizes[1], level->seeds, (size_t)s.buckets, level->bitmap,
+    number = phastr_sweep(PHASTR_SETTINGS(s), weights, true, chunks, level->hashes,
+                          (size_t)level->keys, level->begins, (size_t)s.buckets + 1, table,
+                          (size_t)sizes[1], level->seeds, (size_t)s.buckets, level->bitmap,
                           (size_t)sizes[2], work, (size_t)sizes[0], level->counts, &bucket);
     if (number != PHASTR_OK)
         fail("sweep", number);
@@ -107,9 +108,9 @@ static uint32_t *holes(const struct level *level, uint64_t *count) {
 }
 
 static uint64_t lookup(const struct level *level, uint64_t hash) {
-    const struct settings s = level->s;
+    const struct phastr_settings s = level->s;
     uint64_t slot = 0, number;
-    number = phastr_lookup(s.m, s.log2_slice_len, s.ll, s.sb, s.buckets, level->seeds,
+    number = phastr_lookup(PHASTR_SETTINGS(s), level->seeds,
                            (size_t)s.buckets, hash, &slot);
     if (number != PHASTR_OK)
         fail("lookup", number);
@@ -162,11 +163,11 @@ static uint64_t spread(uint64_t i) {
 /* Looks each key up, together and by itself. Answers how many were bumped; each other must have a
  * marked slot of its own. */
 static uint64_t look_up_all(const struct level *level) {
-    const struct settings s = level->s;
+    const struct phastr_settings s = level->s;
     uint64_t *slots = room(level->keys, sizeof *slots), bumped = 0;
     unsigned char *seen = room(s.m, 1);
     uint64_t number =
-        phastr_positions(s.m, s.log2_slice_len, s.ll, s.sb, s.buckets, level->seeds,
+        phastr_positions(PHASTR_SETTINGS(s), level->seeds,
                          (size_t)s.buckets, level->hashes, (size_t)level->keys, slots,
                          (size_t)level->keys);
     if (number != PHASTR_OK)
@@ -174,13 +175,13 @@ static uint64_t look_up_all(const struct level *level) {
     for (uint64_t i = 0; i < level->keys; i++) {
         uint64_t slot = lookup(level, level->hashes[i]);
         if (slot != slots[i])
-            fail("a key with two answers", slot);
+            wrong("a key with two answers", slot);
         if (slot == PHASTR_BUMPED) {
             bumped++;
             continue;
         }
         if (slot >= s.m || seen[slot] || !(level->bitmap[slot / 64] >> (slot % 64) & 1))
-            fail("a slot that is not the key's own", slot);
+            wrong("a slot that is not the key's own", slot);
         seen[slot] = 1;
     }
     free(seen);
@@ -190,24 +191,24 @@ static uint64_t look_up_all(const struct level *level) {
 
 /* Writes the level as a file, reads that back and compares. Answers the file's length. */
 static uint64_t hand_round(const struct level *level, const uint32_t *list, uint64_t count) {
-    const struct settings s = level->s;
+    const struct phastr_settings s = level->s;
     size_t bytes = (size_t)(16 + 3 * s.buckets + 4 * count);
     uint8_t *file = room(bytes, 1);
     uint64_t written = 0, read[6] = {0}, number;
-    number = phastr_level_write(s.m, s.log2_slice_len, s.ll, s.sb, s.buckets, level->seeds,
-                                (size_t)s.buckets, list, (size_t)count, file, bytes, &written);
+    number = phastr_level_write(PHASTR_SETTINGS(s), level->seeds, (size_t)s.buckets, list,
+                                (size_t)count, file, bytes, &written);
     if (number != PHASTR_OK)
-        fail("file", number);
+        fail("file written", number);
     uint16_t *seeds = room(written, sizeof *seeds);
     uint32_t *again = room(written, sizeof *again);
     number = phastr_level_read(file, (size_t)written, seeds, (size_t)written, again, (size_t)written, read);
     if (number != PHASTR_OK)
-        fail("reading the file", number);
+        fail("file read", number);
     if (read[0] != s.m || read[1] != s.log2_slice_len || read[2] != s.ll || read[3] != s.sb ||
         read[4] != s.buckets || read[5] != count ||
         memcmp(seeds, level->seeds, (size_t)s.buckets * sizeof *seeds) ||
         memcmp(again, list, (size_t)count * sizeof *again))
-        fail("another level was read, hole count", read[5]);
+        wrong("another level was read, of so many holes", read[5]);
     free(again);
     free(seeds);
     free(file);
@@ -216,10 +217,10 @@ static uint64_t hand_round(const struct level *level, const uint32_t *list, uint
 
 /* Checks a level against its keys. Answers the number; at 29, *bucket is the one that it names. */
 static uint64_t check(const struct level *level, uint64_t *bucket) {
-    const struct settings s = level->s;
+    const struct phastr_settings s = level->s;
     uint64_t *scratch = room(level->bitmap_words, sizeof *scratch);
     uint64_t number = phastr_check_level(
-        s.m, s.log2_slice_len, s.ll, s.sb, s.buckets, level->hashes, (size_t)level->keys,
+        PHASTR_SETTINGS(s), level->hashes, (size_t)level->keys,
         level->begins, (size_t)s.buckets + 1, level->seeds, (size_t)s.buckets, level->bitmap,
         (size_t)level->bitmap_words, scratch, (size_t)level->bitmap_words, bucket);
     free(scratch);
@@ -264,7 +265,7 @@ static void generated(uint64_t keys, uint64_t log2_slice_len, uint64_t chunks) {
     free(list);
     uint64_t bumped = look_up_all(&level);
     if (bumped != level.counts[1] || level.counts[0] + bumped != keys || count != bumped)
-        fail("counts", bumped);
+        wrong("bumped keys miscounted", bumped);
     printf("%" PRIu64 " keys in %" PRIu64 " buckets, %" PRIu64 " chunks: %" PRIu64 " placed, %" PRIu64
            " bumped, %" PRIu64 " buckets of seed 0, %" PRIu64 " holes; a file of %" PRIu64 " bytes\n",
            keys, level.s.buckets, chunks, level.counts[0], bumped, level.counts[2], count, written);
@@ -272,24 +273,31 @@ static void generated(uint64_t keys, uint64_t log2_slice_len, uint64_t chunks) {
     let_go(&level);
 }
 
+static void print_number(uint64_t number) {
+    printf("refused %" PRIu64 " (%s), ", number, phastr_number_words(number));
+}
+
 /* Numbers and slices that are refused: nothing is written, and of a level file zeros are left. */
 static void refused(void) {
     uint16_t seeds[2] = {1, 1};
     uint64_t slot = 77, number = phastr_lookup(7, 3, 0, 4, 3, seeds, 2, 0, &slot);
-    printf("refused %" PRIu64 ", slot kept at %" PRIu64 "\n", number, slot);
+    print_number(number);
+    printf("slot kept at %" PRIu64 "\n", slot);
     uint64_t count = 77;
     number = phastr_bucket_count(10, 100, 64.5, &count);
-    printf("refused %" PRIu64 ", count kept at %" PRIu64 "\n", number, count);
+    print_number(number);
+    printf("count kept at %" PRIu64 "\n", count);
     uint32_t entry = 77;
     number = phastr_log_table(&entry, 0);
-    printf("refused %" PRIu64 ", entry kept at %" PRIu32 "\n", number, entry);
+    print_number(number);
+    printf("entry kept at %" PRIu32 "\n", entry);
     uint8_t file[] = {1, 7, 3, 0, 4, 3, 3, 16};
     uint32_t hole = 77;
     uint64_t read[6] = {77, 77, 77, 77, 77, 77};
     uint16_t three[3] = {77, 77, 77};
     number = phastr_level_read(file, sizeof file, three, 3, &hole, 1, read);
-    printf("refused %" PRIu64 ", a seed, a hole and m left at %" PRIu16 ", %" PRIu32 ", %" PRIu64 "\n", number,
-           three[0], hole, read[0]);
+    print_number(number);
+    printf("a seed, a hole and m left at %" PRIu16 ", %" PRIu32 ", %" PRIu64 "\n", three[0], hole, read[0]);
 }
 
 /* The house table is the front of a longer one. */
@@ -302,7 +310,7 @@ static void tables(void) {
     phastr_house_table(house);
     for (size_t d = 0; d < PHASTR_HOUSE_ENTRIES; d++)
         if (table[d] != house[d])
-            fail("another house table at entry", d);
+            wrong("another house table at entry", d);
     printf("entries %" PRIu32 " %" PRIu32 " %" PRIu32 "\n", table[3], table[2047], table[131071]);
     free(table);
 }

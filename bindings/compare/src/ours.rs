@@ -129,7 +129,8 @@ pub fn compare_owned(case: &Case, bucket_size: f64, wanted: &Wanted, tally: &mut
     );
     tally.all_same("seeds", level.seeds(), &wanted.seeds);
     tally.all_same("bitmap", level.bitmap(), &wanted.bitmap);
-    tally.all_same("holes", &level.holes().collect::<Vec<u32>>(), &wanted.holes);
+    let holes: Vec<u32> = level.holes().map(|hole| u32::try_from(hole).expect("below m")).collect();
+    tally.all_same("holes", &holes, &wanted.holes);
     let slots: Vec<u64> =
         level.lookup_all(&case.hashes).into_iter().map(|slot| slot.unwrap_or(BUMPED)).collect();
     tally.all_same("slots", &slots, &wanted.slots);

@@ -119,8 +119,14 @@ impl Builder {
         Builder { chunks, ..self }
     }
 
-    /// The settings of a level of so many keys. Refused: 3, 16 and 17, where no number of buckets
-    /// was given.
+    /// The settings of a level of so many keys.
+    ///
+    /// # Errors
+    ///
+    /// [`Error::SliceLen`], [`Error::BucketSize`] and [`Error::Keys`], where no number of buckets was
+    /// given. All else is left to the sweep.
+    ///
+    /// # Examples
     ///
     /// ```
     /// let settings = phastr::Builder::new().settings(1000)?;
@@ -141,8 +147,11 @@ impl Builder {
         })
     }
 
-    /// Sweeps hashes that stand in any order. Refused: as [`Builder::settings`], then as
-    /// [`Groups::new`], then as [`Level::sweep`].
+    /// Sweeps hashes that stand in any order.
+    ///
+    /// # Errors
+    ///
+    /// Those of [`Builder::settings`], then those of [`Groups::new`], then those of [`Level::sweep`].
     pub fn sweep(&self, hashes: Vec<u64>) -> Result<Level, Error> {
         let settings = self.settings(hashes.len() as u64)?;
         let groups = Groups::new(settings.buckets, hashes)?;

@@ -1,37 +1,42 @@
-//! The documents' numbers as an error.
+//! Why a call is refused.
 
 use std::fmt;
 
-/// Why a call was refused: one of the documents' numbers. [`Error::number`] gives the number, and
-/// its text the number and the documents' words.
+/// Why a call was refused. Its text says it in the words of this crate's own settings, with the number that
+/// C and the project's documents know it by behind; docs/RULES.md of the project says of each number what
+/// to do about it. Of several that apply a call answers the first by number, unless it says otherwise.
 ///
 /// ```
 /// let error = phastr::lent::bucket_count(10, 100, 0.5).unwrap_err();
 /// assert_eq!(error, phastr::Error::BucketSize);
 /// assert_eq!(error.number(), 16);
-/// assert_eq!(error.to_string(), "refused 16: bucket size not in 1 to min(2^log2_slice_len/8, 64), NaN included");
+/// assert_eq!(
+///     error.to_string(),
+///     "bucket_size is not from 1 to 64, or above an eighth of the slice length (number 16)"
+/// );
 /// ```
 #[derive(Clone, Copy, Debug, PartialEq, Eq, Hash)]
+#[non_exhaustive]
 pub enum Error {
-    /// 1: the bits of a seed are outside 2 to 16.
+    /// 1: `seed_bits` is not from 2 to 16.
     SeedBits,
-    /// 2: there are not fewer bits for layouts than for seeds.
+    /// 2: `log2_layouts` is not below `seed_bits`.
     Layouts,
-    /// 3: log2_slice_len is outside 3 to 16.
+    /// 3: `log2_slice_len` is not from 3 to 16.
     SliceLen,
-    /// 4: log2_layouts is above 6, or the layouts want more than 64 bits of a hash.
+    /// 4: the layouts want more than the 64 bits of a hash: `log2_slice_len` times 2^`log2_layouts`.
     LayoutBits,
-    /// 5: the slots are outside 1 to 134,217,728.
+    /// 5: `slots` is not from 1 to 134,217,728.
     Slots,
-    /// 6: the buckets are even in number, or more than 67,108,865.
+    /// 6: `buckets` is even, or above 67,108,865.
     Buckets,
-    /// 7: a bucket would span more than 4,096 slices.
+    /// 7: the buckets are too few for the slots: one would span more than 4,096 slices.
     SlicesPerBucket,
     /// 8: a weight is beyond ±2^32.
     Weights,
     /// 9: the begins do not fit the buckets and hashes, or there are more than 67,108,864 hashes.
     Begins,
-    /// 10: a bucket has more than 4,096 keys.
+    /// 10: a bucket has more than 4,096 keys. Hashes that are spread over all 64 bits have none.
     LargeBucket,
     /// 11: a hash stands in a bucket that is not its own.
     StrayHash,
@@ -46,11 +51,11 @@ pub enum Error {
     },
     /// 15: there are more holes than the buffer takes.
     HoleBuffer,
-    /// 16: the bucket size is not in 1 to min(2^log2_slice_len/8, 64).
+    /// 16: `bucket_size` is not from 1 to 64, or above an eighth of the slice length.
     BucketSize,
     /// 17: there are more than 67,108,864 keys.
     Keys,
-    /// 20: a sweep in no chunk.
+    /// 20: `chunks` is 0.
     Chunks,
     /// 21: a table to be filled has no entries, or more than 131,072.
     TableLength,
@@ -58,12 +63,12 @@ pub enum Error {
     FileShort,
     /// 23: a level file's version is not 1.
     FileVersion,
-    /// 24: a seed of a level file is too large, there are more holes than slots, or a hole does not
-    /// rise or is no slot.
+    /// 24: a seed of a level file has more than `seed_bits` bits, there are more holes than slots, or a
+    /// hole does not rise or is no slot.
     FileValue,
     /// 25: bytes are left over after a level file's last hole.
     FileLeftOver,
-    /// 26: seeds, holes or bytes have no room for what a level file has.
+    /// 26: the bytes lent have no room for a level file, or the seeds or holes lent for what one has.
     FileRoom,
     /// 28: a seed has more than sb bits, or an empty bucket has one that is not 0.
     BadSeed,
@@ -111,66 +116,75 @@ impl Error {
         }
     }
 
-    /// The documents' number.
+    /// The number that C and the project's documents know it by.
     pub fn number(&self) -> u64 {
         self.said().0
     }
 
-    /// The documents' words for the number.
+    /// What was wrong, without the number.
     pub fn words(&self) -> &'static str {
         self.said().1
     }
 
     fn said(&self) -> (u64, &'static str) {
         match self {
-            Error::SeedBits => (1, "sb outside 2..16"),
-            Error::Layouts => (2, "ll ≥ sb"),
-            Error::SliceLen => (3, "log2_slice_len outside 3..16"),
-            Error::LayoutBits => (4, "ll > 6, or log2_slice_len·2^ll > 64"),
-            Error::Slots => (5, "m outside 1..134,217,728"),
-            Error::Buckets => (6, "B even or above 67,108,865 (0 is even)"),
-            Error::SlicesPerBucket => (7, "p > 4,096"),
-            Error::Weights => (8, "a weight beyond ±2^32"),
+            Error::SeedBits => (1, "seed_bits is not from 2 to 16"),
+            Error::Layouts => (2, "log2_layouts is not below seed_bits"),
+            Error::SliceLen => (3, "log2_slice_len is not from 3 to 16"),
+            Error::LayoutBits => {
+                (4, "log2_slice_len times 2^log2_layouts is above 64, or log2_layouts above 6")
+            }
+            Error::Slots => (5, "slots is not from 1 to 134,217,728"),
+            Error::Buckets => (6, "buckets is even, or above 67,108,865"),
+            Error::SlicesPerBucket => {
+                (7, "buckets are too few for the slots: one spans over 4,096 slices")
+            }
+            Error::Weights => (8, "a weight is beyond ±2^32"),
             Error::Begins => (
                 9,
-                "begins not B+1 long, not starting at 0, falling, or not ending at the hash count; or more than 67,108,864 hashes",
+                "begins are not buckets + 1 numbers from 0 up to the hashes' count, or that is above 67,108,864",
             ),
-            Error::LargeBucket => (10, "a bucket of more than 4,096 keys"),
-            Error::StrayHash => (11, "a hash outside its bucket"),
-            Error::Table => (12, "table too short, or falling within the entries needed"),
-            Error::Lengths => (13, "seeds not B long, bitmap not ceil(m/64) long, or work under W"),
-            Error::NoSeed { .. } => (14, "bumping forbidden and the bucket taken gets 0"),
-            Error::HoleBuffer => (15, "hole list longer than its buffer"),
-            Error::BucketSize => {
-                (16, "bucket size not in 1 to min(2^log2_slice_len/8, 64), NaN included")
+            Error::LargeBucket => (10, "a bucket has more than 4,096 keys"),
+            Error::StrayHash => (11, "a hash stands in a bucket that is not its own"),
+            Error::Table => (12, "the logarithm table is too short, or falls"),
+            Error::Lengths => {
+                (13, "seeds, bitmap, work or slots have not the length that is wanted")
             }
-            Error::Keys => (17, "k above 67,108,864"),
-            Error::Chunks => (20, "chunk count 0"),
-            Error::TableLength => (21, "length 0 or above 131,072"),
-            Error::FileShort => (22, "file ends or a number exceeds 64 bits or ten groups"),
-            Error::FileVersion => (23, "version not 1"),
+            Error::NoSeed { .. } => (14, "bumping is forbidden and no seed fits a bucket"),
+            Error::HoleBuffer => (15, "there are more holes than the buffer takes"),
+            Error::BucketSize => {
+                (16, "bucket_size is not from 1 to 64, or above an eighth of the slice length")
+            }
+            Error::Keys => (17, "there are more than 67,108,864 keys"),
+            Error::Chunks => (20, "chunks is 0"),
+            Error::TableLength => (21, "a table has no entries, or more than 131,072"),
+            Error::FileShort => {
+                (22, "the file ends too early, or has a number of over 64 bits or ten groups")
+            }
+            Error::FileVersion => (23, "the file's version is not 1"),
             Error::FileValue => (
                 24,
-                "a seed of 2^sb or more, a hole count above m, or a hole not rising or not below m",
+                "a seed has more than seed_bits bits, there are more holes than slots, or a hole does not rise or is no slot",
             ),
-            Error::FileLeftOver => (25, "bytes left over after the last hole"),
-            Error::FileRoom => (26, "a lent output too small"),
-            Error::BadSeed => (28, "a seed of 2^sb or more, or a nonzero one for an empty bucket"),
-            Error::SlotTwice { .. } => (29, "a slot met twice"),
-            Error::Bitmap => (30, "bitmap differs"),
+            Error::FileLeftOver => (25, "bytes are left over after the file's last hole"),
+            Error::FileRoom => (26, "what is lent has no room for the file, or for what it has"),
+            Error::BadSeed => (
+                28,
+                "a seed has more than seed_bits bits, or an empty bucket has one that is not 0",
+            ),
+            Error::SlotTwice { .. } => (29, "two keys share a slot"),
+            Error::Bitmap => (30, "the bitmap does not mark just the keys' slots"),
         }
     }
 }
 
 impl fmt::Display for Error {
     fn fmt(&self, f: &mut fmt::Formatter<'_>) -> fmt::Result {
-        write!(f, "refused {}: {}", self.number(), self.words())?;
-        match self {
-            Error::NoSeed { bucket } | Error::SlotTwice { bucket } => {
-                write!(f, " (bucket {bucket})")
-            }
-            _ => Ok(()),
+        f.write_str(self.words())?;
+        if let Error::NoSeed { bucket } | Error::SlotTwice { bucket } = self {
+            write!(f, ", bucket {bucket}")?;
         }
+        write!(f, " (number {})", self.number())
     }
 }
 

@@ -6,8 +6,8 @@ use crate::settings::bucket_of;
 /// The most buckets that a level has.
 const MOST_BUCKETS: u64 = 67_108_865;
 
-/// The most hashes that a level takes.
-const MOST_HASHES: usize = 67_108_864;
+/// The most keys that a level takes.
+const MOST_KEYS: usize = 67_108_864;
 
 /// Hashes, bucket after bucket, and where each bucket begins.
 #[derive(Clone, Debug, Default, PartialEq, Eq)]
@@ -20,7 +20,11 @@ impl Groups {
     /// Groups hashes that stand in any order by their buckets, so many in all. They are sorted in
     /// place: a hash's bucket rises with the hash.
     ///
-    /// Refused: 6 and, of 9, more than 67,108,864 hashes.
+    /// # Errors
+    ///
+    /// [`Error::Buckets`] and [`Error::Keys`].
+    ///
+    /// # Examples
     ///
     /// ```
     /// let groups = phastr::Groups::new(3, vec![1 << 63, 1, u64::MAX, 0])?;
@@ -32,8 +36,8 @@ impl Groups {
         if buckets.is_multiple_of(2) || buckets > MOST_BUCKETS {
             return Err(Error::Buckets);
         }
-        if hashes.len() > MOST_HASHES {
-            return Err(Error::Begins);
+        if hashes.len() > MOST_KEYS {
+            return Err(Error::Keys);
         }
         hashes.sort_unstable();
         let mut begins = vec![0; buckets as usize + 1];
@@ -47,7 +51,8 @@ impl Groups {
     }
 
     /// Takes hashes that are grouped already. Bucket b's are those from `begins[b]` to
-    /// `begins[b + 1]`; nothing is checked here, as each sweep checks (9 to 11).
+    /// `begins[b + 1]`; nothing is checked here, as each sweep checks ([`Error::Begins`],
+    /// [`Error::LargeBucket`] and [`Error::StrayHash`]).
     pub fn from_parts(hashes: Vec<u64>, begins: Vec<u32>) -> Groups {
         Groups { hashes, begins }
     }

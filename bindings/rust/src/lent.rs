@@ -1,7 +1,8 @@
 //! The library's calls over memory that the caller lends, so that it can be used again.
 //!
-//! A call that is refused has written nothing, but for 14, which leaves seeds, bitmap and work zero,
-//! and 28 to 30, which leave the scratch of [`check`] zero.
+//! A call that is refused has written nothing, but for [`Error::NoSeed`], which leaves seeds, bitmap and
+//! work zero, what [`check`] finds wrong with a level, which leaves its scratch zero, and the calls on
+//! level files, which leave all that they were lent for writing zero.
 //!
 //! ```
 //! use phastr::{Groups, How, Settings, lent};
@@ -47,7 +48,7 @@ pub struct Input<'a> {
     /// The weights of buckets of one to seven keys, each within ±2^32
     /// ([`default_weights`](crate::default_weights) has PHastR's).
     pub weights: [i64; 7],
-    /// How to sweep: whether buckets may be bumped, and in how many chunks.
+    /// How to sweep: whether a bucket that no seed fits is bumped, and in how many chunks.
     pub how: How,
     /// The hashes, bucket after bucket ([`Groups`](crate::Groups) brings them into that order).
     pub hashes: &'a [u64],
@@ -100,7 +101,13 @@ fn answer<T>(number: u64, value: T) -> Result<T, Error> {
     if number == 0 { Ok(value) } else { Err(Error::of(number, 0)) }
 }
 
-/// What a sweep wants lent if its largest bucket has so many keys. Refused: 1 to 7, and 10.
+/// What a sweep wants lent if its largest bucket has so many keys.
+///
+/// # Errors
+///
+/// Those of the settings: [`Error::SeedBits`], [`Error::Layouts`], [`Error::SliceLen`],
+/// [`Error::LayoutBits`], [`Error::Slots`], [`Error::Buckets`], [`Error::SlicesPerBucket`]; and
+/// [`Error::LargeBucket`] above 4,096 keys.
 pub fn sizes(settings: &Settings, largest: u64) -> Result<Sizes, Error> {
     let mut sizes = [0; 3];
     let number = raw::sizes(settings, largest, &mut sizes);
@@ -108,7 +115,14 @@ pub fn sizes(settings: &Settings, largest: u64) -> Result<Sizes, Error> {
     answer(number, Sizes { work, table, bitmap })
 }
 
-/// Sweeps a level. Refused: 1 to 8, 20, 9 to 14, the first that applies in this order.
+/// Sweeps a level.
+///
+/// # Errors
+///
+/// Those of the settings as for [`sizes`], then [`Error::Weights`], [`Error::Chunks`],
+/// [`Error::Begins`], [`Error::LargeBucket`], [`Error::StrayHash`], [`Error::Table`] and
+/// [`Error::Lengths`]: the first that applies in this order, and nothing is written.
+/// [`Error::NoSeed`] where bumping is forbidden.
 pub fn sweep(input: &Input, output: Output) -> Result<Counts, Error> {
     let (mut counts, mut bucket) = ([0; 3], 0);
     match raw::sweep(input, output, &mut counts, &mut bucket) {
@@ -121,7 +135,12 @@ pub fn sweep(input: &Input, output: Output) -> Result<Counts, Error> {
 }
 
 /// Writes the unmarked ones of so many slots, ascending, to the front of `out` and answers how many
-/// there are. Refused: 5, 13 and 15.
+/// there are. A slot takes 32 bits there, to save room.
+///
+/// # Errors
+///
+/// [`Error::Slots`]; [`Error::Lengths`] where the bitmap has not a word for each 64 slots;
+/// [`Error::HoleBuffer`].
 pub fn holes(slots: u64, bitmap: &[u64], out: &mut [u32]) -> Result<usize, Error> {
     let mut count = 0;
     let number = raw::holes(slots, bitmap, out, &mut count);
@@ -129,15 +148,23 @@ pub fn holes(slots: u64, bitmap: &[u64], out: &mut [u32]) -> Result<usize, Error
 }
 
 /// The slot of a hash, or none where its bucket was bumped. A hash that was no key gets some slot
-/// too. Refused: 1 to 6, and 13 where there is not one seed to a bucket.
+/// too.
+///
+/// # Errors
+///
+/// Those of the settings as for [`sizes`], but not [`Error::SlicesPerBucket`]; [`Error::Lengths`]
+/// where there is not one seed to a bucket.
 pub fn lookup(settings: &Settings, seeds: &[u16], hash: u64) -> Result<Option<u64>, Error> {
     let mut slot = 0;
     let number = raw::lookup(settings, seeds, hash, &mut slot);
     answer(number, (slot != BUMPED).then_some(slot))
 }
 
-/// Writes the slot of each hash, or [`BUMPED`], to its place in `slots`. Refused: as [`lookup`], and
-/// 13 also where there are not as many slots as hashes.
+/// Writes the slot of each hash, or [`BUMPED`], to its place in `slots`.
+///
+/// # Errors
+///
+/// Those of [`lookup`], and [`Error::Lengths`] also where there are not as many slots as hashes.
 pub fn lookup_all(
     settings: &Settings,
     seeds: &[u16],
@@ -151,9 +178,14 @@ pub fn lookup_all(
 /// every empty bucket has seed 0, no two keys with a nonzero seed share a slot, and the bitmap marks
 /// just their slots. That its seeds are the cheapest is not asked.
 ///
-/// Refused: 1 to 7, 9 to 11 and 13; then 28, 29 with the lowest bucket at which a slot is met twice,
-/// and 30. The scratch is as long as the bitmap. What it holds before does not matter, and unless one
-/// of 1 to 13 refuses it is zero afterwards.
+/// The scratch is as long as the bitmap. What it holds before does not matter, and unless one of the
+/// first group below refuses it is zero afterwards.
+///
+/// # Errors
+///
+/// Those of the settings as for [`sizes`], then [`Error::Begins`], [`Error::LargeBucket`],
+/// [`Error::StrayHash`] and [`Error::Lengths`]. Then, of the level itself, [`Error::BadSeed`],
+/// [`Error::SlotTwice`] with the lowest bucket at which a slot is met twice, and [`Error::Bitmap`].
 pub fn check(level: &Finished, scratch: &mut [u64]) -> Result<(), Error> {
     let mut bucket = 0;
     match raw::check(level, scratch, &mut bucket) {
@@ -162,7 +194,13 @@ pub fn check(level: &Finished, scratch: &mut [u64]) -> Result<(), Error> {
     }
 }
 
-/// How many buckets so many keys get at an expected bucket size. Refused: 3, 16 and 17.
+/// How many buckets so many keys get at an expected bucket size.
+///
+/// # Errors
+///
+/// [`Error::SliceLen`], [`Error::BucketSize`] and [`Error::Keys`].
+///
+/// # Examples
 ///
 /// ```
 /// assert_eq!(phastr::lent::bucket_count(10, 1000, 4.25), Ok(235));
@@ -174,8 +212,13 @@ pub fn bucket_count(log2_slice_len: u32, keys: u64, size: f64) -> Result<u64, Er
 }
 
 /// Fills a table of logarithms, of the length lent: entry d is 2^24·log2 d, rounded to nearest, and
-/// entry 0 is 0. Refused: 21 where it has no entries or more than
-/// [`LOG_ENTRIES`](crate::LOG_ENTRIES).
+/// entry 0 is 0.
+///
+/// # Errors
+///
+/// [`Error::TableLength`] where it has no entries or more than [`LOG_ENTRIES`](crate::LOG_ENTRIES).
+///
+/// # Examples
 ///
 /// ```
 /// let mut table = [7; 9];
@@ -192,8 +235,15 @@ pub fn file_room(seeds: usize, holes: usize) -> usize {
     16 + 3 * seeds + 4 * holes
 }
 
-/// Writes a level file (docs/LEVEL-FILE.md) to the front of `out` and answers its length. Refused: 1
-/// to 7, 13 where there is not one seed to a bucket, 24 and 26; all of `out` is then zero.
+/// Writes a level file (docs/LEVEL-FILE.md of the project) to the front of `out` and answers its
+/// length. What lies beyond is kept. [`file_room`] says how many bytes are room enough.
+///
+/// # Errors
+///
+/// Those of the settings as for [`sizes`], then [`Error::Lengths`] where there is not one seed to a
+/// bucket, [`Error::FileValue`] and [`Error::FileRoom`]. All of `out` is then zero.
+///
+/// # Examples
 ///
 /// ```
 /// use phastr::{Settings, lent};
@@ -221,8 +271,15 @@ pub fn write_file(
 }
 
 /// Reads a level file into the front of `seeds` and `holes` and answers its settings and how many
-/// holes there are. Refused: 22 to 26, and 1 to 7 once its settings are read; all of `seeds` and
-/// `holes` are then zero. As many of each as there are bytes are room enough for any whole file.
+/// holes there are. What lies beyond is kept. As many of each as there are bytes are room enough for
+/// any whole file. A hole takes 32 bits, as in [`holes`].
+///
+/// # Errors
+///
+/// As each number is read: [`Error::FileShort`], [`Error::FileVersion`], those of the settings as for
+/// [`sizes`] once all five are read, [`Error::FileValue`], and [`Error::FileRoom`] where there are more
+/// seeds or holes than were lent room for; [`Error::FileLeftOver`] where all else is well. All of `seeds`
+/// and `holes` are then zero.
 pub fn read_file(
     bytes: &[u8],
     seeds: &mut [u16],

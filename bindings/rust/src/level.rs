@@ -26,7 +26,15 @@ impl PartialEq for Level {
 impl Eq for Level {}
 
 impl Level {
-    /// Sweeps grouped hashes. Refused: 1 to 8, 20, 9 to 11, and 14 where bumping is forbidden.
+    /// Sweeps grouped hashes.
+    ///
+    /// # Errors
+    ///
+    /// Those of the settings as for [`lent::sizes`], then [`Error::Weights`], [`Error::Chunks`], and of
+    /// the groups [`Error::Begins`], [`Error::LargeBucket`] and [`Error::StrayHash`];
+    /// [`Error::NoSeed`] where bumping is forbidden.
+    ///
+    /// # Examples
     ///
     /// ```
     /// use phastr::{Groups, How, Level, Settings, default_weights};
@@ -59,8 +67,15 @@ impl Level {
         Ok(Level { settings, seeds, bitmap, counts: Some(counts) })
     }
 
-    /// Reads a level file (docs/LEVEL-FILE.md). Refused: 22 to 25, and 1 to 7 once its settings are
-    /// read. A file that announces more seeds or holes than it has bytes is told as 22.
+    /// Reads a level file (docs/LEVEL-FILE.md of the project). What is read has its settings, seeds and
+    /// holes; its keys are not in the file, so that it has no [`counts`](Level::counts).
+    ///
+    /// # Errors
+    ///
+    /// Those of [`lent::read_file`], but that a file which announces more seeds or holes than it has
+    /// bytes is [`Error::FileShort`]: there is room for any whole file.
+    ///
+    /// # Examples
     ///
     /// ```
     /// use phastr::{Builder, Level};
@@ -89,9 +104,10 @@ impl Level {
         Ok(Level { settings, seeds, bitmap, counts: None })
     }
 
-    /// The level as a file (docs/LEVEL-FILE.md), for [`Level::from_bytes`] here or elsewhere.
+    /// The level as a file (docs/LEVEL-FILE.md of the project), for [`Level::from_bytes`] here or
+    /// elsewhere.
     pub fn to_bytes(&self) -> Vec<u8> {
-        let holes: Vec<u32> = self.holes().collect();
+        let holes = self.hole_list();
         let mut bytes = vec![0; lent::file_room(self.seeds.len(), holes.len())];
         let length = lent::write_file(&self.settings, &self.seeds, &holes, &mut bytes)
             .expect("a finished level is sound");
@@ -100,7 +116,13 @@ impl Level {
     }
 
     /// Takes over a level that another has made, PHastR's own Rust for one, once it is found sound
-    /// ([`check_level`]). Refused: as that.
+    /// ([`check_level`]).
+    ///
+    /// # Errors
+    ///
+    /// Those of [`lent::check`].
+    ///
+    /// # Examples
     ///
     /// ```
     /// use phastr::{Error, Groups, Level, Settings};
@@ -125,7 +147,11 @@ impl Level {
         Ok(Level { settings, seeds, bitmap, counts })
     }
 
-    /// Checks the level against the keys it should be made from. Refused: as [`check_level`].
+    /// Checks the level against the keys it should be made from.
+    ///
+    /// # Errors
+    ///
+    /// Those of [`lent::check`].
     pub fn check(&self, groups: &Groups) -> Result<(), Error> {
         check_level(self.settings, groups, &self.seeds, &self.bitmap)
     }
@@ -143,19 +169,40 @@ impl Level {
         slots.into_iter().map(|slot| (slot != BUMPED).then_some(slot)).collect()
     }
 
-    /// Writes the slot of each hash, or [`BUMPED`], to its place in `slots`. Refused: 13 where there
-    /// are not as many slots as hashes.
+    /// Writes the slot of each hash, or [`BUMPED`], to its place in `slots`.
+    ///
+    /// # Errors
+    ///
+    /// [`Error::Lengths`] where there are not as many slots as hashes.
     pub fn lookup_into(&self, hashes: &[u64], slots: &mut [u64]) -> Result<(), Error> {
         lent::lookup_all(&self.settings, &self.seeds, hashes, slots)
     }
 
+    /// Which of the hashes were bumped, by their place among those given: the keys of the next level.
+    /// Hash these keys anew there, with another salt; under the same hashes they fall together again.
+    ///
+    /// ```
+    /// let hashes = vec![1 << 63, 0, 1 << 62, 0];
+    /// let level = phastr::Builder::new().bucket_size(1.0).sweep(hashes.clone())?;
+    /// assert_eq!(level.bumped(&hashes), [1, 3]); // the same hash twice fits nowhere
+    /// # Ok::<(), phastr::Error>(())
+    /// ```
+    pub fn bumped(&self, hashes: &[u64]) -> Vec<usize> {
+        let slots = self.lookup_all(hashes);
+        (0..hashes.len()).filter(|&i| slots[i].is_none()).collect()
+    }
+
     /// The slots that no key took, ascending.
     pub fn holes(&self) -> Holes {
+        Holes(self.hole_list().into_iter())
+    }
+
+    fn hole_list(&self) -> Vec<u32> {
         let taken: u64 = self.bitmap.iter().map(|word| u64::from(word.count_ones())).sum();
         let mut list = vec![0; (self.settings.slots - taken) as usize];
         let count = lent::holes(self.settings.slots, &self.bitmap, &mut list);
         assert_eq!(count, Ok(list.len()), "a finished level is sound");
-        Holes(list.into_iter())
+        list
     }
 
     /// Whether a key took the slot. No key takes a slot that the level has not.
@@ -170,7 +217,7 @@ impl Level {
         self.counts
     }
 
-    /// The settings that the level was swept with.
+    /// The settings that the level was made with.
     pub fn settings(&self) -> Settings {
         self.settings
     }
@@ -201,8 +248,14 @@ fn full_bitmap(slots: u64) -> Vec<u64> {
     bitmap
 }
 
-/// Checks a finished level, whoever made it, against the keys it was made from. Accepted and refused:
-/// as [`lent::check`].
+/// Checks a finished level, whoever made it, against the keys it was made from. It accepts what
+/// [`lent::check`] does.
+///
+/// # Errors
+///
+/// Those of [`lent::check`].
+///
+/// # Examples
 ///
 /// ```
 /// use phastr::{Error, Groups, Settings, check_level};
@@ -212,7 +265,7 @@ fn full_bitmap(slots: u64) -> Vec<u64> {
 /// let groups = Groups::new(1, vec![0, 4])?;
 /// let refused = check_level(settings, &groups, &[1], &[0b10]).unwrap_err();
 /// assert_eq!(refused, Error::SlotTwice { bucket: 0 });
-/// assert_eq!(refused.to_string(), "refused 29: a slot met twice (bucket 0)");
+/// assert_eq!(refused.to_string(), "two keys share a slot, bucket 0 (number 29)");
 /// # Ok::<(), Error>(())
 /// ```
 pub fn check_level(
@@ -239,10 +292,10 @@ fn counts(groups: &Groups, seeds: &[u16]) -> Counts {
 pub struct Holes(std::vec::IntoIter<u32>);
 
 impl Iterator for Holes {
-    type Item = u32;
+    type Item = u64;
 
-    fn next(&mut self) -> Option<u32> {
-        self.0.next()
+    fn next(&mut self) -> Option<u64> {
+        self.0.next().map(u64::from)
     }
 
     fn size_hint(&self) -> (usize, Option<usize>) {
@@ -251,8 +304,8 @@ impl Iterator for Holes {
 }
 
 impl DoubleEndedIterator for Holes {
-    fn next_back(&mut self) -> Option<u32> {
-        self.0.next_back()
+    fn next_back(&mut self) -> Option<u64> {
+        self.0.next_back().map(u64::from)
     }
 }
 

@@ -26,8 +26,19 @@
 //!
 //! [`Builder`] and [`Level`] own their memory. [`lent`] has the same calls over memory of the
 //! caller, for those who sweep often. Whatever is handed to a call, it comes back: with an answer,
-//! or with an [`Error`] that has the number and words of documents 01 and 02, the project's
-//! scope and the requests that came after it.
+//! or with an [`Error`]; docs/RULES.md of the project has the rules of a level, and each error with
+//! what to do about it.
+//!
+//! # Bumped keys
+//!
+//! One level leaves a few keys without a slot. [`Level::bumped`] says which; they go to a further
+//! level under **new hashes**, by a salt of that level's own, and so on until none is left. Under the
+//! same hashes they would fall together as before. The few keys of a last level want more slots than
+//! keys (`n + n / 4 + 16`) and a bucket size of 3. The example `lines` does all this:
+//!
+//! ```text
+//! printf '%s\\n' anna bert carl | cargo run --example lines
+//! ```
 
 #![deny(missing_docs, unsafe_op_in_unsafe_fn)]
 

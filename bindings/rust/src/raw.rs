@@ -1,5 +1,5 @@
-//! The library's functions, and all of this crate's unsafe code. Nothing compares these
-//! declarations with the library: they are those of include/phastr.h, which crates/exports has in Rattle.
+//! The library's functions, and all of this crate's unsafe code. No compiler sees both sides of these
+//! declarations; bindings/test-declarations holds them, as text, to those of crates/exports.
 //!
 //! None of the library's functions has a `requires`: each is proved to return for every argument of
 //! these types, to keep to the slices and to write only where a `*mut` or `&mut` allows it. What a

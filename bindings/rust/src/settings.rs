@@ -41,7 +41,8 @@ impl Settings {
 /// How to sweep.
 #[derive(Clone, Copy, Debug, PartialEq, Eq, Hash)]
 pub struct How {
-    /// Whether a bucket that no seed fits is bumped. If not, it ends the sweep with 14.
+    /// Whether a bucket that no seed fits is bumped. If not, it ends the sweep
+    /// ([`Error::NoSeed`](crate::Error::NoSeed)).
     pub bump: bool,
     /// Into how many chunks the buckets may be split, at least one; what is too many is cut.
     pub chunks: u64,

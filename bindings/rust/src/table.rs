@@ -21,7 +21,13 @@ pub fn house_table() -> Box<[u32; HOUSE_ENTRIES]> {
 }
 
 /// A table of 1 to [`LOG_ENTRIES`] entries by the same rule, in whole numbers, for settings that want
-/// more than the house table has (slices of 2,048 slots do). Refused: 21.
+/// more than the house table has (slices of 2,048 slots do).
+///
+/// # Errors
+///
+/// [`Error::TableLength`].
+///
+/// # Examples
 ///
 /// ```
 /// let table = phastr::log_table(4097)?;

@@ -138,7 +138,7 @@ fn groups() {
     for buckets in [0, 2, 67_108_867] {
         assert_eq!(Groups::new(buckets, vec![]), Err(Error::Buckets));
     }
-    assert_eq!(Groups::new(1, vec![0; 67_108_865]), Err(Error::Begins));
+    assert_eq!(Groups::new(1, vec![0; 67_108_865]), Err(Error::Keys));
     let none = Groups::new(3, vec![]).unwrap();
     assert_eq!((none.hashes(), none.begins(), none.largest()), (&[][..], &[0; 4][..], 0));
     let some = Groups::new(5, vec![u64::MAX, 0, 1 << 63, 3]).unwrap();
@@ -168,9 +168,11 @@ fn hold_together(level: &Level, keys: &[u64]) {
     let counts = level.counts().unwrap();
     assert_eq!((counts.placed, counts.bumped), (placed, keys.len() as u64 - placed));
     assert_eq!(counts.zero, level.seeds().iter().filter(|&&seed| seed == 0).count() as u64);
-    let free: Vec<u32> = (0..marked.len() as u32).filter(|&i| !marked[i as usize]).collect();
+    let free: Vec<u64> = (0..marked.len() as u64).filter(|&i| !marked[i as usize]).collect();
     assert_eq!(level.holes().len(), free.len());
-    assert_eq!(level.holes().collect::<Vec<u32>>(), free);
+    assert_eq!(level.holes().collect::<Vec<u64>>(), free);
+    let bumped: Vec<usize> = (0..keys.len()).filter(|&i| found[i].is_none()).collect();
+    assert_eq!(level.bumped(keys), bumped);
     assert!(!level.is_taken(level.settings().slots));
 }
 
@@ -233,6 +235,7 @@ fn builders_refuse() {
     assert_eq!(b().buckets(1).sweep(hashes(4097)), Err(Error::LargeBucket));
     assert_eq!(b().bucket_size(0.5).sweep(keys()), Err(Error::BucketSize));
     assert_eq!(b().sweep(vec![0; 67_108_865]), Err(Error::Keys));
+    assert_eq!(b().buckets(25).sweep(vec![0; 67_108_865]), Err(Error::Keys));
     assert_eq!(b().bump(false).sweep(vec![0; 2]), Err(Error::NoSeed { bucket: 0 }));
     assert!(b().bump(false).slots(10).sweep(vec![0, 1 << 63]).is_ok());
 }
@@ -260,13 +263,16 @@ fn phastrs_weights() {
 }
 
 #[test]
-fn errors_say_number_and_words() {
+fn errors_say_words_and_number() {
     let error: Box<dyn std::error::Error> = Box::new(Error::NoSeed { bucket: 7 });
     assert_eq!(
         error.to_string(),
-        "refused 14: bumping forbidden and the bucket taken gets 0 (bucket 7)"
+        "bumping is forbidden and no seed fits a bucket, bucket 7 (number 14)"
     );
-    assert_eq!(Error::SeedBits.to_string(), "refused 1: sb outside 2..16");
-    assert_eq!(Error::Keys.words(), "k above 67,108,864");
-    assert_eq!(Error::TableLength.to_string(), "refused 21: length 0 or above 131,072");
+    assert_eq!(Error::SeedBits.to_string(), "seed_bits is not from 2 to 16 (number 1)");
+    assert_eq!(Error::Keys.words(), "there are more than 67,108,864 keys");
+    assert_eq!(
+        Error::TableLength.to_string(),
+        "a table has no entries, or more than 131,072 (number 21)"
+    );
 }

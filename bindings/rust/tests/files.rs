@@ -177,5 +177,5 @@ fn levels_handed_round() {
 #[test]
 fn the_error_says_what_it_is() {
     let error = Level::from_bytes(&with(0, &[2])).unwrap_err();
-    assert_eq!(error.to_string(), "refused 23: version not 1");
+    assert_eq!(error.to_string(), "the file's version is not 1 (number 23)");
 }

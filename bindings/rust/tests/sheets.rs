@@ -110,7 +110,7 @@ fn the_listing_as_an_owned_level() {
     assert_eq!(level.seeds(), [3, 4, 0]);
     assert_eq!(level.bitmap(), [0b10110]);
     assert_eq!(level.counts(), Some(Counts { placed: 3, bumped: 0, zero: 1 }));
-    assert_eq!(level.holes().collect::<Vec<u32>>(), [0, 3, 5, 6]);
+    assert_eq!(level.holes().collect::<Vec<u64>>(), [0, 3, 5, 6]);
     let built = Builder::new().log2_slice_len(3).log2_layouts(0).seed_bits(4).slots(7).buckets(3);
     assert_eq!(built.weights(weights).sweep(hashes), Ok(level));
 }
