@@ -13,4 +13,5 @@ mod MeasureLaws
 pub mod WriteLaws
 pub mod Written
 pub mod Room
+pub mod SaidLaws
 mod Sheet

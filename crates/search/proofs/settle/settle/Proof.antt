@@ -2,6 +2,7 @@
 use mathlib.Core.Path.{_≡_, refl, ap, _∙_}
 use mathlib.Core.List.{List}
 use Prim.Native.Nat.{ℕ}
+use native.Mathlib.Omega.{arith}
 use Rattle.rings.specs.Parts.{part}
 use Rattle.rings.specs.Place.{unmarkedTo}
 use Rattle.rings.specs.PlaceLaws.{part-markedTo}
@@ -23,7 +24,7 @@ returns : tie.Need-returns
 returns c = let m = c .before .before .before .before .before .mark-slots .ensures in settled-yes m (c .if1 .taken)
 
 unmark-both-requires : tie.Need-unmark-both-requires
-unmark-both-requires c κs = let s = c .before .before .before .before .before .before .before .before .before .before .before .before in let m = c .before .before .before .before .before .before .before .mark-slots in (settling-after (s .pre .0) (m .ensures), m .ensures .ring .le)
+unmark-both-requires c κs = let s = c .before .before .before .before .before .before .before .before .before .before .before .before in let m = c .before .before .before .before .before .before .before .mark-slots in (settling-after (s .pre .0) (m .ensures), omega (arith, m .ensures .ring .le))
 
 same-length-3 : tie.Need-same-length-3
 same-length-3 c = search needs
