@@ -12,11 +12,11 @@ unfoldable pub better : (c r j : ℕ) → Best → Best
 better c r j b = cond (ltb c b.cost) (record { cost = c; r = r; j = j }) b
 
 -- after b, rotations s, .., s + k - 1 of layout r
-unfoldable pub bestFrom : (cost : ℕ → ℕ) (test : ℕ → Bool) (r : ℕ) (b : Best) (s k : ℕ) → Best
-bestFrom cost test r b s zero = b
-bestFrom cost test r b s (suc k) = cond (test (s + k)) (better (cost (s + k)) r (s + k) (bestFrom cost test r b s k)) (bestFrom cost test r b s k)
+unfoldable pub best_from : (cost : ℕ → ℕ) (test : ℕ → Bool) (r : ℕ) (b : Best) (s k : ℕ) → Best
+best_from cost test r b s zero = b
+best_from cost test r b s (suc k) = cond (test (s + k)) (better (cost (s + k)) r (s + k) (best_from cost test r b s k)) (best_from cost test r b s k)
 
 -- the n rotations of each layout below `layouts`
-unfoldable pub bestOf : (cost : ℕ → ℕ → ℕ) (test : ℕ → ℕ → Bool) (n layouts : ℕ) → Best
-bestOf cost test n zero = nothing
-bestOf cost test n (suc r) = bestFrom (cost r) (test r) r (bestOf cost test n r) 0 n
+unfoldable pub best_of : (cost : ℕ → ℕ → ℕ) (test : ℕ → ℕ → Bool) (n layouts : ℕ) → Best
+best_of cost test n zero = nothing
+best_of cost test n (suc r) = best_from (cost r) (test r) r (best_of cost test n r) 0 n

@@ -4,16 +4,16 @@ use Rattle.std.specs.Prelude.{◌≡◌, refl, List, [], ◌∷◌, ℕ, zero, s
 use Rattle.std.proofs.Common.{arith, lit<, lit≤}
 use Rattle.words.specs.Bit.{bit}
 use Rattle.words.specs.Map.{slot}
-use Rattle.rules.specs.Numbers.{rising, stepUp}
-use Rattle.rules.proofs.InputLaws.{rising-steps, steps-climb}
+use Rattle.rules.specs.Numbers.{rising, step_up}
+use Rattle.rules.proofs.InputLaws.{rising_steps, steps_climb}
 use Rattle.rings.specs.declared.Ring.{Ring}
-use Rattle.rings.specs.Ring.{ringOf}
-use Rattle.rings.specs.Keys.{placeAt, entry_at, costTo, costAt, Priced}
-use Rattle.best.specs.Best.{nothing, better, bestFrom, bestOf}
-use Rattle.best.specs.Prices.{Prices, isFree, costIn, freeIn, bestFree}
+use Rattle.rings.specs.Ring.{ring_of}
+use Rattle.rings.specs.Keys.{place_at, entry_at, cost_to, cost_at, Priced}
+use Rattle.best.specs.Best.{nothing, better, best_from, best_of}
+use Rattle.best.specs.Prices.{Prices, is_free, cost_in, free_in, best_free}
 
 abbrev pub ring : Ring
-ring = ringOf 0 1 4 16
+ring = ring_of 0 1 4 16
 
 abbrev pub table : List ℕ
 table = 5 ∷ 7 ∷ 7 ∷ 9 ∷ 12 ∷ []
@@ -32,36 +32,36 @@ priced zero h = lit< tt
 priced (suc zero) h = lit< tt
 priced (suc (suc i)) h = absurd (omega arith)
 
-pub prices-met : Prices ring table keys
-unfolding rising stepUp
-prices-met = record {
+pub prices_met : Prices ring table keys
+unfolding rising step_up
+prices_met = record {
   entries = 5;
   enough = lit≤ tt;
   few = lit≤ tt;
-  climbs = steps-climb table 5 (rising-steps table 4 tt);
+  climbs = steps_climb table 5 (rising_steps table 4 tt);
   priced = priced;
   size = lit< tt;
 }
 
 -- of rotations 0, 1 and 2 two cost 16: the first one is the best
-pub tie-first : bestFree ring table keys 2 (7 ∷ []) 1 1 ≡ record { cost = 16; r = 0; j = 0 }
-unfolding bestFree bestOf bestFrom better costIn freeIn costAt costTo entry_at placeAt isFree slot bit
-tie-first = refl
+pub tie_first : best_free ring table keys 2 (7 ∷ []) 1 1 ≡ record { cost = 16; r = 0; j = 0 }
+unfolding best_free best_of best_from better cost_in free_in cost_at cost_to entry_at place_at is_free slot bit
+tie_first = refl
 
 -- of rotations 1 and 3 the later one is cheaper
-pub later-cheaper : bestFree ring table keys 2 (10 ∷ []) 1 1 ≡ record { cost = 12; r = 0; j = 3 }
-unfolding bestFree bestOf bestFrom better costIn freeIn costAt costTo entry_at placeAt isFree slot bit
-later-cheaper = refl
+pub later_cheaper : best_free ring table keys 2 (10 ∷ []) 1 1 ≡ record { cost = 12; r = 0; j = 3 }
+unfolding best_free best_of best_from better cost_in free_in cost_at cost_to entry_at place_at is_free slot bit
+later_cheaper = refl
 
 -- a tie between layouts goes to the first, and a cheaper rotation of the second wins
-pub layouts-tie : bestFree ring table twice 2 (4 ∷ 1 ∷ []) 1 2 ≡ record { cost = 16; r = 0; j = 2 }
-unfolding bestFree bestOf bestFrom better costIn freeIn costAt costTo entry_at placeAt isFree slot bit
-layouts-tie = refl
+pub layouts_tie : best_free ring table twice 2 (4 ∷ 1 ∷ []) 1 2 ≡ record { cost = 16; r = 0; j = 2 }
+unfolding best_free best_of best_from better cost_in free_in cost_at cost_to entry_at place_at is_free slot bit
+layouts_tie = refl
 
-pub second-layout : bestFree ring table twice 2 (4 ∷ 8 ∷ []) 1 2 ≡ record { cost = 12; r = 1; j = 3 }
-unfolding bestFree bestOf bestFrom better costIn freeIn costAt costTo entry_at placeAt isFree slot bit
-second-layout = refl
+pub second_layout : best_free ring table twice 2 (4 ∷ 8 ∷ []) 1 2 ≡ record { cost = 12; r = 1; j = 3 }
+unfolding best_free best_of best_from better cost_in free_in cost_at cost_to entry_at place_at is_free slot bit
+second_layout = refl
 
-pub none_free : bestFree ring table keys 2 (0 ∷ []) 1 1 ≡ nothing
-unfolding bestFree bestOf bestFrom better costIn freeIn costAt costTo entry_at placeAt isFree slot bit
+pub none_free : best_free ring table keys 2 (0 ∷ []) 1 1 ≡ nothing
+unfolding best_free best_of best_from better cost_in free_in cost_at cost_to entry_at place_at is_free slot bit
 none_free = refl

@@ -2,7 +2,7 @@
 use Rattle.std.specs.Prelude.{◌≡◌, refl, List, ℕ, ◌+◌, ◌-◌, ◌≤◌, length, set, take, drop}
 use Rattle.std.proofs.Common.{◌∙◌, length-set}
 use Rattle.std.proofs.lemmas.List.{take-set-le}
-use Rattle.rings.specs.Parts.{part, part-range, part_same}
+use Rattle.rings.specs.Parts.{part, part_range, part_same}
 
 -- what is below `up` is as it was
 pub record Kept (up : ℕ) (l after : List ℕ) : Type 0 where
@@ -19,9 +19,9 @@ pub kept_on : {up : ℕ} {l l' l'' : List ℕ} → Kept up l l' → Kept up l' l
 kept_on a b = record { front = b.front ∙ a.front; len = b.len ∙ a.len }
 
 -- a part below `up`
-pub kept-part : {up : ℕ} {l l' : List ℕ} (at size : ℕ) → Kept up l l' → at + size ≤ up → part l' at size ≡ part l at size
-kept-part {up} {l} {l'} at size k h = part_same l' l up at size h k.len k.front
+pub kept_part : {up : ℕ} {l l' : List ℕ} (at size : ℕ) → Kept up l l' → at + size ≤ up → part l' at size ≡ part l at size
+kept_part {up} {l} {l'} at size k h = part_same l' l up at size h k.len k.front
 
 -- a part `&after[at..at + size]` of the code
-pub kept-range : {up : ℕ} {l after : List ℕ} (at size : ℕ) → Kept up l after → at + size ≤ up → take (at + size - at) (drop at after) ≡ part l at size
-kept-range {up} {l} {after} at size k h = part-range after at size ∙ kept-part at size k h
+pub kept_range : {up : ℕ} {l after : List ℕ} (at size : ℕ) → Kept up l after → at + size ≤ up → take (at + size - at) (drop at after) ≡ part l at size
+kept_range {up} {l} {after} at size k h = part_range after at size ∙ kept_part at size k h

@@ -5,7 +5,7 @@ use Rattle.rings.specs.declared.Ring.{Ring}
 use Rattle.rings.specs.Ring.{Shape}
 use Rattle.best.specs.Prices.{Prices}
 use Rattle.best.specs.declared.Best.{Best}
-use Rattle.best.specs.Flat.{row_of, bestFlat}
+use Rattle.best.specs.Flat.{row_of, best_flat}
 use Rattle.best.specs.Kept.{Kept}
 
 -- 1 where x is not 0, and 1 where it is 0
@@ -18,13 +18,13 @@ none zero = 1
 none (suc x) = 0
 
 -- how many of the first i words are not 0
-unfoldable pub someTo : List ℕ → ℕ → ℕ
-someTo free zero = 0
-someTo free (suc i) = someTo free i + some (get_or free i 0)
+unfoldable pub some_to : List ℕ → ℕ → ℕ
+some_to free zero = 0
+some_to free (suc i) = some_to free i + some (get_or free i 0)
 
 -- where word i stands in the list, if it is not 0
 abbrev pub place : (free : List ℕ) (list i : ℕ) → ℕ
-place free list i = list + 2 * someTo free i
+place free list i = list + 2 * some_to free i
 
 pub record Entry (free : List ℕ) (list i : ℕ) (work : List ℕ) : Type 0 where
   pub word : get_or work (place free list i) 0 ≡ get_or free i 0
@@ -53,4 +53,4 @@ pub record Pass (g : Ring) (table work : List ℕ) (at size shift list total : �
 
 abbrev pub Passed : (g : Ring) (table work : List ℕ) (at size shift list total : ℕ) (b : Best) (after : List ℕ) → Type 0
 Passed g table work at size shift list total b after =
-    ((free : List ℕ) → Listing g table work at size shift list total free → b ≡ bestFlat g table work at size shift free) × Kept list work after
+    ((free : List ℕ) → Listing g table work at size shift list total free → b ≡ best_flat g table work at size shift free) × Kept list work after

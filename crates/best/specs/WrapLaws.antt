@@ -11,58 +11,58 @@ use Rattle.std.specs.Int.Bits.{bit_or}
 use Rattle.std.proofs.Math.ListN.{length}
 use Rattle.std.proofs.lemmas.List.{length-replicate, get_or-replicate, drop-set-add}
 use Rattle.std.proofs.Math.Seq.{take-set-lt}
-use Rattle.words.specs.Cases.{lt-or-ge, same_or_not}
+use Rattle.words.specs.Cases.{lt_or_ge, same_or_not}
 use Rattle.words.specs.Map.{slot, marked}
-use Rattle.words.specs.MapLaws.{length_marked, marked-same, marked_other, mark_code}
+use Rattle.words.specs.MapLaws.{length_marked, marked_same, marked_other, mark_code}
 use Rattle.rings.specs.declared.Ring.{Ring}
 use Rattle.rings.specs.Ring.{Shape, Word}
-use Rattle.rings.specs.Keys.{placeAt}
-use Rattle.rings.specs.KeyLaws.{place-lt, place-turn}
-use Rattle.rings.specs.Parts.{part, part_at, part-range, length_part, elem-same}
-use Rattle.best.specs.Kept.{Kept, kept_self, kept_set, kept_on, kept-part, kept-range}
-use Rattle.best.specs.Wraps.{withPoint, points_of, Points, Filled}
+use Rattle.rings.specs.Keys.{place_at}
+use Rattle.rings.specs.KeyLaws.{place_lt, place_turn}
+use Rattle.rings.specs.Parts.{part, part_at, part_range, length_part, elem_same}
+use Rattle.best.specs.Kept.{Kept, kept_self, kept_set, kept_on, kept_part, kept_range}
+use Rattle.best.specs.Wraps.{with_point, points_of, Points, Filled}
 
 -- ---- one key's point
 
 module _ (g : Ring) (d : ℕ) (wraps : List ℕ) where
-  with_none : placeAt g d 0 ≡ 0 → withPoint g d wraps ≡ wraps
-  unfolding withPoint
-  with_none e = rw (eq-eqb (placeAt g d 0) 0 e) refl
+  with_none : place_at g d 0 ≡ 0 → with_point g d wraps ≡ wraps
+  unfolding with_point
+  with_none e = rw (eq-eqb (place_at g d 0) 0 e) refl
 
-  with-some : placeAt g d 0 ≢ 0 → withPoint g d wraps ≡ marked wraps (g.n - placeAt g d 0)
-  unfolding withPoint
-  with-some n = rw (ne_eqb (placeAt g d 0) 0 n) refl
+  with_some : place_at g d 0 ≢ 0 → with_point g d wraps ≡ marked wraps (g.n - place_at g d 0)
+  unfolding with_point
+  with_some n = rw (ne_eqb (place_at g d 0) 0 n) refl
 
-  with-length : length (withPoint g d wraps) ≡ length wraps
-  with-length =
-      ⊎_elim (λ e. ap length (with_none e)) (λ n. ap length (with-some n) ∙ length_marked wraps (g.n - placeAt g d 0)) (same_or_not (placeAt g d 0) 0)
+  with_length : length (with_point g d wraps) ≡ length wraps
+  with_length =
+      ⊎_elim (λ e. ap length (with_none e)) (λ n. ap length (with_some n) ∙ length_marked wraps (g.n - place_at g d 0)) (same_or_not (place_at g d 0) 0)
 
   module _ (p : ℕ) (fits : p < 64 * length wraps) where
-    with-stays : slot wraps p ≡ 1 → slot (withPoint g d wraps) p ≡ 1
-    with-stays h =
+    with_stays : slot wraps p ≡ 1 → slot (with_point g d wraps) p ≡ 1
+    with_stays h =
         ⊎_elim
         (λ e. ap (λ (x : List ℕ). slot x p) (with_none e) ∙ h)
-        (λ n. ap (λ (x : List ℕ). slot x p) (with-some n) ∙ ⊎_elim
-        (λ e. ap (λ (q : ℕ). slot (marked wraps q) p) (sym e) ∙ marked-same wraps p fits)
-        (λ m. marked_other wraps (g.n - placeAt g d 0) p m ∙ h)
-        (same_or_not p (g.n - placeAt g d 0)))
-        (same_or_not (placeAt g d 0) 0)
+        (λ n. ap (λ (x : List ℕ). slot x p) (with_some n) ∙ ⊎_elim
+        (λ e. ap (λ (q : ℕ). slot (marked wraps q) p) (sym e) ∙ marked_same wraps p fits)
+        (λ m. marked_other wraps (g.n - place_at g d 0) p m ∙ h)
+        (same_or_not p (g.n - place_at g d 0)))
+        (same_or_not (place_at g d 0) 0)
 
-    module _ (s : Shape g) (pos : 0 < p) (lt : p < g.n) (home : placeAt g d p ≡ 0) where
+    module _ (s : Shape g) (pos : 0 < p) (lt : p < g.n) (home : place_at g d p ≡ 0) where
       -- the way to the end of the ring
-      way : placeAt g d 0 + p ≡ g.n
+      way : place_at g d 0 + p ≡ g.n
       way =
           ⊎_elim
-          (λ (l : placeAt g d 0 + p < g.n). absurd (omega (arith, place-turn g d p, mod-eq_of_lt l)))
-          (λ (l : g.n ≤ placeAt g d 0 + p).
-          let m : (placeAt g d 0 + p) % g.n ≡ placeAt g d 0 + p - g.n = mod-eq-sub-mod l ∙ mod-eq_of_lt (omega (arith, place-lt g s d 0)) in
-          omega (arith, place-turn g d p))
-          (lt-or-ge (placeAt g d 0 + p) g.n)
+          (λ (l : place_at g d 0 + p < g.n). absurd (omega (arith, place_turn g d p, mod-eq_of_lt l)))
+          (λ (l : g.n ≤ place_at g d 0 + p).
+          let m : (place_at g d 0 + p) % g.n ≡ place_at g d 0 + p - g.n = mod-eq-sub-mod l ∙ mod-eq_of_lt (omega (arith, place_lt g s d 0)) in
+          omega (arith, place_turn g d p))
+          (lt_or_ge (place_at g d 0 + p) g.n)
 
-      with-own : slot (withPoint g d wraps) p ≡ 1
-      with-own =
-          let e : g.n - placeAt g d 0 ≡ p = omega (arith, way) in
-          ap (λ (x : List ℕ). slot x p) (with-some (λ z. omega (arith, way))) ∙ ap (λ (q : ℕ). slot (marked wraps q) p) e ∙ marked-same wraps p fits
+      with_own : slot (with_point g d wraps) p ≡ 1
+      with_own =
+          let e : g.n - place_at g d 0 ≡ p = omega (arith, way) in
+          ap (λ (x : List ℕ). slot x p) (with_some (λ z. omega (arith, way))) ∙ ap (λ (q : ℕ). slot (marked wraps q) p) e ∙ marked_same wraps p fits
 
 -- ---- the points of all keys
 
@@ -70,31 +70,31 @@ pub points_none : (g : Ring) (keys : List ℕ) (count : ℕ) → points_of g key
 unfolding points_of
 points_none g keys count = refl
 
-pub points-more : (g : Ring) (keys : List ℕ) (count i : ℕ) → points_of g keys count (i + 1) ≡ withPoint g (get_or keys i 0) (points_of g keys count i)
+pub points_more : (g : Ring) (keys : List ℕ) (count i : ℕ) → points_of g keys count (i + 1) ≡ with_point g (get_or keys i 0) (points_of g keys count i)
 unfolding points_of
-points-more g keys count i = rw add-one refl
+points_more g keys count i = rw add-one refl
 
-points-length : (g : Ring) (keys : List ℕ) (count i : ℕ) → length (points_of g keys count i) ≡ count
+points_length : (g : Ring) (keys : List ℕ) (count i : ℕ) → length (points_of g keys count i) ≡ count
 unfolding points_of
-points-length g keys count zero = length-replicate count 0
-points-length g keys count (suc i) = with-length g (get_or keys i 0) (points_of g keys count i) ∙ points-length g keys count i
+points_length g keys count zero = length-replicate count 0
+points_length g keys count (suc i) = with_length g (get_or keys i 0) (points_of g keys count i) ∙ points_length g keys count i
 
 module _ (g : Ring) (s : Shape g) (keys : List ℕ) (count : ℕ) (fits : g.n ≤ 64 * count) where
-  points_to : (k i p : ℕ) → i < k → 0 < p → p < g.n → placeAt g (get_or keys i 0) p ≡ 0 → slot (points_of g keys count k) p ≡ 1
+  points_to : (k i p : ℕ) → i < k → 0 < p → p < g.n → place_at g (get_or keys i 0) p ≡ 0 → slot (points_of g keys count k) p ≡ 1
   unfolding points_of
   points_to zero i p l pos lt home = absurd (omega arith)
   points_to (suc k) i p l pos lt home =
-      let room : p < 64 * length (points_of g keys count k) = rw (points-length g keys count k) (omega arith) in
+      let room : p < 64 * length (points_of g keys count k) = rw (points_length g keys count k) (omega arith) in
       ⊎_elim
-      (λ (x : i < k). with-stays g (get_or keys k 0) (points_of g keys count k) p room (points_to k i p x pos lt home))
+      (λ (x : i < k). with_stays g (get_or keys k 0) (points_of g keys count k) p room (points_to k i p x pos lt home))
       (λ (x : k ≤ i).
       let e : i ≡ k = omega arith in
-      with-own g (get_or keys k 0) (points_of g keys count k) p room s pos lt (rw e at home))
-      (lt-or-ge i k)
+      with_own g (get_or keys k 0) (points_of g keys count k) p room s pos lt (rw e at home))
+      (lt_or_ge i k)
 
-  pub points-all : Points g keys (points_of g keys count (length keys))
+  pub points_all : Points g keys (points_of g keys count (length keys))
   unfolding Points
-  points-all i p l pos lt home = points_to (length keys) i p l pos lt home
+  points_all i p l pos lt home = points_to (length keys) i p l pos lt home
 
 -- ---- the loop of `clear`
 
@@ -103,12 +103,12 @@ pub record Clearing (up count i : ℕ) (l now : List ℕ) : Type 0 where
   pub kept : Kept up l now
   pub zeros : (k : ℕ) → k < i → get_or now (up + k) 0 ≡ 0
 
-pub clearing-none : (up count : ℕ) (l : List ℕ) → Clearing up count 0 l l
-clearing-none up count l = record { le = omega arith; kept = kept_self up l; zeros = λ k h. absurd (omega arith) }
+pub clearing_none : (up count : ℕ) (l : List ℕ) → Clearing up count 0 l l
+clearing_none up count l = record { le = omega arith; kept = kept_self up l; zeros = λ k h. absurd (omega arith) }
 
 module _ {up count i : ℕ} {l now : List ℕ} (a : Clearing up count i l now) where
-  pub clearing-more : i < count → up + count ≤ length l → Clearing up count (i + 1) l (set now (up + i) 0)
-  clearing-more h fits = record {
+  pub clearing_more : i < count → up + count ≤ length l → Clearing up count (i + 1) l (set now (up + i) 0)
+  clearing_more h fits = record {
     le = omega arith;
     kept = kept_on a.kept (kept_set up now (up + i) 0 (omega arith));
     zeros = λ k x. ⊎_elim
@@ -116,11 +116,11 @@ module _ {up count i : ℕ} {l now : List ℕ} (a : Clearing up count i l now) w
         (λ (y : i ≤ k).
         let e : k ≡ i = omega arith in
         rw e (get_or-set_same now (up + i) 0 0 (omega (arith, a.kept.len))))
-        (lt-or-ge k i);
+        (lt_or_ge k i);
   }
 
-  pub clearing-end : count ≤ i → up + count ≤ length l → Filled up count l (replicate count 0) now
-  clearing-end h fits = record {
+  pub clearing_end : count ≤ i → up + count ≤ length l → Filled up count l (replicate count 0) now
+  clearing_end h fits = record {
     kept = a.kept;
     is = ext_get_or 0 (part now up count) (replicate count 0) (long ∙ sym (length-replicate count 0)) (λ k x.
         let y : k < count = omega (arith, long) in
@@ -132,20 +132,20 @@ module _ {up count i : ℕ} {l now : List ℕ} (a : Clearing up count i l now) w
 
 -- ---- `set_point`
 
-pub point-none : (g : Ring) (d up count : ℕ) {x : ℕ} (l : List ℕ) → Word g.n (placeAt g d 0) x → x ≡ 0 → Filled up count l (withPoint g d (part l up count)) l
-point-none g d up count l w z = record { kept = kept_self up l; is = sym (with_none g d (part l up count) (sym w.is ∙ z)) }
+pub point_none : (g : Ring) (d up count : ℕ) {x : ℕ} (l : List ℕ) → Word g.n (place_at g d 0) x → x ≡ 0 → Filled up count l (with_point g d (part l up count)) l
+point_none g d up count l w z = record { kept = kept_self up l; is = sym (with_none g d (part l up count) (sym w.is ∙ z)) }
 
-pub point-set : (g : Ring) (d up count : ℕ) {x : ℕ} (l : List ℕ) → Word g.n (placeAt g d 0) x → x ≢ 0 → g.n ≤ 64 * count
-    → Filled up count l (withPoint g d (part l up count)) (set l (up + (g.n - x) / 64) (bit_or (get_or l (up + (g.n - x) / 64) 0) (1 * 2 ^ ((g.n - x) % 64) % 2 ^ 64)))
+pub point_set : (g : Ring) (d up count : ℕ) {x : ℕ} (l : List ℕ) → Word g.n (place_at g d 0) x → x ≢ 0 → g.n ≤ 64 * count
+    → Filled up count l (with_point g d (part l up count)) (set l (up + (g.n - x) / 64) (bit_or (get_or l (up + (g.n - x) / 64) 0) (1 * 2 ^ ((g.n - x) % 64) % 2 ^ 64)))
 unfolding marked
-point-set g d up count {x} l w z fits = record {
+point_set g d up count {x} l w z fits = record {
   kept = kept_set up l (up + (g.n - x) / 64) v (omega arith);
   is = ap (take count) (drop-set-add up l ((g.n - x) / 64) v)
       ∙ take-set-lt count (drop up l) ((g.n - x) / 64) v (omega (arith, w.lt))
       ∙ ap (λ (y : ℕ). set (part l up count) ((g.n - x) / 64) (bit_or y (1 * 2 ^ ((g.n - x) % 64) % 2 ^ 64))) (sym (part_at l up count ((g.n - x) / 64) (omega (arith, w.lt))))
       ∙ mark_code (part l up count) ((g.n - x) / 64) ((g.n - x) % 64) (omega arith)
       ∙ ap (λ (y : ℕ). marked (part l up count) (g.n - y)) w.is
-      ∙ sym (with-some g d (part l up count) (λ e. z (w.is ∙ e)));
+      ∙ sym (with_some g d (part l up count) (λ e. z (w.is ∙ e)));
 }
   where
     v : ℕ
@@ -157,45 +157,45 @@ pub record Pointing (g : Ring) (l : List ℕ) (at size up count i : ℕ) (now : 
   pub le : i ≤ size
   pub filled : Filled up count l (points_of g (part l at size) count i) now
 
-pub pointing-none : (g : Ring) (at size : ℕ) {up count : ℕ} {l l' : List ℕ} → Filled up count l (replicate count 0) l' → Pointing g l' at size up count 0 l'
-pointing-none g at size {up} {count} {l} {l'} f = record {
+pub pointing_none : (g : Ring) (at size : ℕ) {up count : ℕ} {l l' : List ℕ} → Filled up count l (replicate count 0) l' → Pointing g l' at size up count 0 l'
+pointing_none g at size {up} {count} {l} {l'} f = record {
   le = omega arith;
   filled = record { kept = kept_self up l'; is = f.is ∙ sym (points_none g (part l' at size) count) };
 }
 
 module _ {g : Ring} {l : List ℕ} {at size up count i : ℕ} {now : List ℕ} (a : Pointing g l at size up count i now) where
-  pub pointing-more : {now' : List ℕ} → i < size → at + size ≤ up → Filled up count now (withPoint g (get_or now (at + i) 0) (part now up count)) now'
+  pub pointing_more : {now' : List ℕ} → i < size → at + size ≤ up → Filled up count now (with_point g (get_or now (at + i) 0) (part now up count)) now'
       → Pointing g l at size up count (i + 1) now'
-  pointing-more {now'} h below f =
-      let key : get_or now (at + i) 0 ≡ get_or (part l at size) i 0 = elem-same now l up (at + i) (omega arith) a.filled.kept.front ∙ sym (part_at l at size i h) in
+  pointing_more {now'} h below f =
+      let key : get_or now (at + i) 0 ≡ get_or (part l at size) i 0 = elem_same now l up (at + i) (omega arith) a.filled.kept.front ∙ sym (part_at l at size i h) in
       record {
         le = omega arith;
         filled = record {
           kept = kept_on a.filled.kept f.kept;
-          is = f.is ∙ rw (key, a.filled.is, points-more g (part l at size) count i) refl;
+          is = f.is ∙ rw (key, a.filled.is, points_more g (part l at size) count i) refl;
         };
       }
 
   -- in the list before the words were cleared
-  pub pointing-end : {old words : List ℕ} → size ≤ i → at + size ≤ up → Filled up count old words l → Filled up count old (points_of g (part old at size) count size) now
-  pointing-end {old} {words} h below f =
+  pub pointing_end : {old words : List ℕ} → size ≤ i → at + size ≤ up → Filled up count old words l → Filled up count old (points_of g (part old at size) count size) now
+  pointing_end {old} {words} h below f =
       let e : i ≡ size = omega (arith, a.le) in
       record {
         kept = kept_on f.kept a.filled.kept;
-        is = a.filled.is ∙ rw (e, kept-part at size f.kept below) refl;
+        is = a.filled.is ∙ rw (e, kept_part at size f.kept below) refl;
       }
 
 -- ---- the points beside the keys, as parts of the code
 
 module _ {up count : ℕ} {l words after : List ℕ} (f : Filled up count l words after) (n : ℕ) (fits : n ≤ 64 * count) (room : up + count ≤ length l) where
-  pub free-room : (at : ℕ) → at + count ≤ up → n ≤ 64 * length (take (at + count - at) (drop at after))
-  free-room at h = rw (kept-range at count f.kept h, length_part l at count (omega arith)) fits
+  pub free_room : (at : ℕ) → at + count ≤ up → n ≤ 64 * length (take (at + count - at) (drop at after))
+  free_room at h = rw (kept_range at count f.kept h, length_part l at count (omega arith)) fits
 
-  pub wraps-room : n ≤ 64 * length (take (up + count - up) (drop up after))
-  wraps-room = rw (part-range after up count, length_part after up count (omega (arith, f.kept.len))) fits
+  pub wraps_room : n ≤ 64 * length (take (up + count - up) (drop up after))
+  wraps_room = rw (part_range after up count, length_part after up count (omega (arith, f.kept.len))) fits
 
-pub points-here : {g : Ring} {up count : ℕ} (a size : ℕ) {l after : List ℕ} → Shape g → Filled up count l (points_of g (part l a size) count size) after → g.n ≤ 64 * count
+pub points_here : {g : Ring} {up count : ℕ} (a size : ℕ) {l after : List ℕ} → Shape g → Filled up count l (points_of g (part l a size) count size) after → g.n ≤ 64 * count
     → a + size ≤ up → a + size ≤ length l → Points g (take (a + size - a) (drop a after)) (take (up + count - up) (drop up after))
-points-here {g} {up} {count} a size {l} {after} s f fits below room =
-    let all : Points g (part l a size) (points_of g (part l a size) count (length (part l a size))) = points-all g s (part l a size) count fits in
-    rw (kept-range a size f.kept below, part-range after up count, f.is) (rw (length_part l a size room) at all)
+points_here {g} {up} {count} a size {l} {after} s f fits below room =
+    let all : Points g (part l a size) (points_of g (part l a size) count (length (part l a size))) = points_all g s (part l a size) count fits in
+    rw (kept_range a size f.kept below, part_range after up count, f.is) (rw (length_part l a size room) at all)

@@ -1,7 +1,7 @@
 // The best free rotation, found by pricing every one that is free.
 ghost use Rattle.std.specs.Prelude.{◌≡◌, ◌+◌, ◌*◌, ◌≤◌};
 ghost use Rattle.rings.specs.Parts.{part};
-ghost use Rattle.best.specs.Prices.{bestFree};
+ghost use Rattle.best.specs.Prices.{best_free};
 ghost use Rattle.best.specs.Kept.{Kept};
 ghost use Rattle.best.specs.Flat.{layout_of};
 ghost use Rattle.best.specs.Looking.{Looking};
@@ -37,7 +37,7 @@ pub fn best_all(
     total: u64,
 ) -> Best
     requires { Looking g table.now work.old at size to count layouts total }
-    ensures { (result ≡ bestFree g table.now (part work.old at (layouts * size)) size (part work.old to (layouts * count)) count layouts) × Kept (to + layouts * count) work.old work.new }
+    ensures { (result ≡ best_free g table.now (part work.old at (layouts * size)) size (part work.old to (layouts * count)) count layouts) × Kept (to + layouts * count) work.old work.new }
 {
     let bits = layouts * count;
     let list = to + bits;

@@ -4,7 +4,7 @@ ghost use Rattle.rings.specs.Ring.{Shape};
 ghost use Rattle.rings.specs.Parts.{part};
 ghost use Rattle.best.specs.Prices.{Prices};
 ghost use Rattle.best.specs.Kept.{Kept};
-ghost use Rattle.best.specs.Flat.{row_of, flatCost};
+ghost use Rattle.best.specs.Flat.{row_of, flat_cost};
 ghost use Rattle.best.specs.Listed.{some, none, Listed, Pass, Passed};
 
 use crate::Best;
@@ -68,7 +68,7 @@ fn cost_of(
     requires shape { Shape g }
     requires prices { Prices g table.now (row_of work.now at size shift q) }
     requires shift_bound { (shift ≤ 16) × (at + q / 2 ^ shift * size + size ≤ length work.now) }
-    ensures { result ≡ flatCost g table.now work.now at size shift q }
+    ensures { result ≡ flat_cost g table.now work.now at size shift q }
 {
     let a = at + (q >> shift) * size;
     let j = rotation_of(q, shift);

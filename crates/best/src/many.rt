@@ -1,10 +1,10 @@
 // The best free rotation, found by pricing the first free one of each segment between wrap points: inside a segment costs never fall.
 ghost use Rattle.std.specs.Prelude.{◌≡◌, ◌+◌, ◌-◌, ◌*◌, ◌≤◌, length};
 ghost use Rattle.rings.specs.Ring.{Shape};
-ghost use Rattle.rings.specs.Keys.{costAt};
+ghost use Rattle.rings.specs.Keys.{cost_at};
 ghost use Rattle.rings.specs.Parts.{part};
-ghost use Rattle.best.specs.Best.{bestFrom};
-ghost use Rattle.best.specs.Prices.{Prices, isFree, bestFree};
+ghost use Rattle.best.specs.Best.{best_from};
+ghost use Rattle.best.specs.Prices.{Prices, is_free, best_free};
 ghost use Rattle.best.specs.Kept.{Kept};
 ghost use Rattle.best.specs.Wraps.{Points};
 ghost use Rattle.best.specs.Segments.{Rises};
@@ -29,8 +29,8 @@ fn best_segment(
     requires shape { Shape g }
     requires prices { Prices g table.now keys.now }
     requires begin_le_end { (begin ≤ end) × (end ≤ 65536) × (end ≤ 64 * length free.now) }
-    requires rises { Rises (costAt g table.now keys.now) begin end }
-    ensures { result ≡ bestFrom (costAt g table.now keys.now) (isFree free.now) r best begin (end - begin) }
+    requires rises { Rises (cost_at g table.now keys.now) begin end }
+    ensures { result ≡ best_from (cost_at g table.now keys.now) (is_free free.now) r best begin (end - begin) }
 {
     let j = next_set(free, begin, end);
     if j < end {
@@ -53,7 +53,7 @@ fn best_segments(
     requires prices { Prices g table.now keys.now }
     requires n_bound { (g.n ≤ 64 * length free.now) × (g.n ≤ 64 * length wraps.now) }
     requires points { Points g keys.now wraps.now }
-    ensures { result ≡ bestFrom (costAt g table.now keys.now) (isFree free.now) r before 0 g.n }
+    ensures { result ≡ best_from (cost_at g table.now keys.now) (is_free free.now) r before 0 g.n }
 {
     let n = g.n;
     let mut best = before;
@@ -82,7 +82,7 @@ fn best_between(
     requires shape { Shape g }
     requires prices { Prices g table.now (part work.old a size) }
     requires size_bound { (a + size ≤ up) × (f + count ≤ up) × (up + count ≤ length work.old) × (g.n ≤ 64 * count) }
-    ensures { (result ≡ bestFrom (costAt g table.now (part work.old a size)) (isFree (part work.old f count)) r before 0 g.n) × Kept up work.old work.new }
+    ensures { (result ≡ best_from (cost_at g table.now (part work.old a size)) (is_free (part work.old f count)) r before 0 g.n) × Kept up work.old work.new }
 {
     fill_wraps(g, work, a, size, up, count);
     let v = &work[..];
@@ -113,7 +113,7 @@ pub fn best_many(
     requires shape { Shape g }
     requires prices { Prices g table.now (part work.old at (layouts * size)) }
     requires size_bound { (at + layouts * size ≤ to) × (to + layouts * count ≤ up) × (up + count ≤ length work.old) × (g.n ≤ 64 * count) }
-    ensures { (result ≡ bestFree g table.now (part work.old at (layouts * size)) size (part work.old to (layouts * count)) count layouts) × Kept up work.old work.new }
+    ensures { (result ≡ best_free g table.now (part work.old at (layouts * size)) size (part work.old to (layouts * count)) count layouts) × Kept up work.old work.new }
 {
     let mut best = Best {
         cost: u64::MAX,

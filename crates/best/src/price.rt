@@ -1,7 +1,7 @@
 // What a rotation costs.
 ghost use Rattle.std.specs.Prelude.{◌≡◌, ◌-◌, ◌^◌, ◌<◌};
 ghost use Rattle.rings.specs.Ring.{Shape};
-ghost use Rattle.rings.specs.Keys.{costAt};
+ghost use Rattle.rings.specs.Keys.{cost_at};
 ghost use Rattle.best.specs.Best.{better};
 ghost use Rattle.best.specs.Prices.{Prices};
 
@@ -20,7 +20,7 @@ pub fn cost(g: Ring, table: &[u32], keys: &[u64], j: usize) -> u64
     requires shape { Shape g }
     requires prices { Prices g table.now keys.now }
     requires j_bound { j < 65536 }
-    ensures { (result ≡ costAt g table.now keys.now j) × (result < 2 ^ 64 - 1) }
+    ensures { (result ≡ cost_at g table.now keys.now j) × (result < 2 ^ 64 - 1) }
 {
     let step = (j << g.t) as u64;
     let mask = ((g.n - 1) << g.t) as u64;
@@ -54,7 +54,7 @@ pub fn better_of(g: Ring, table: &[u32], keys: &[u64], r: usize, j: usize, best:
     requires shape { Shape g }
     requires prices { Prices g table.now keys.now }
     requires j_bound { j < 65536 }
-    ensures { result ≡ better (costAt g table.now keys.now j) r j best }
+    ensures { result ≡ better (cost_at g table.now keys.now j) r j best }
 {
     let c = cost(g, table, keys, j);
     cheaper(c, r, j, best)

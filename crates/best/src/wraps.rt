@@ -2,7 +2,7 @@
 ghost use Rattle.std.specs.Prelude.{◌+◌, ◌*◌, ◌≤◌, length, replicate};
 ghost use Rattle.rings.specs.Ring.{Shape};
 ghost use Rattle.rings.specs.Parts.{part};
-ghost use Rattle.best.specs.Wraps.{Filled, withPoint, points_of};
+ghost use Rattle.best.specs.Wraps.{Filled, with_point, points_of};
 
 use rings::Ring;
 use rings::keys::place_of;
@@ -23,7 +23,7 @@ fn clear(work: &mut [u64], up: usize, count: usize)
 fn set_point(g: Ring, work: &mut [u64], d: u64, up: usize, count: usize)
     requires shape { Shape g }
     requires count_in_bounds { (up + count ≤ length work.old) × (g.n ≤ 64 * count) }
-    ensures { Filled up count work.old (withPoint g d (part work.old up count)) work.new }
+    ensures { Filled up count work.old (with_point g d (part work.old up count)) work.new }
 {
     let x = place_of(g, d, 0);
     if x == 0 {

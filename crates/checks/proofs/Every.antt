@@ -8,8 +8,8 @@ use native.Mathlib.Omega.{arith}
 use lib.Dec.{T}
 use lib.ListN.{length, get_or}
 use Rattle.rules.specs.Lists.{every, below}
-use Rattle.rules.proofs.Tests.{split, is_true, is_false, of-true}
-use Rattle.rules.proofs.Ranges.{every-below, below-every}
+use Rattle.rules.proofs.Tests.{split, is_true, is_false, of_true}
+use Rattle.rules.proofs.Ranges.{every_below, below_every}
 
 -- a test that one case would make absurd is false
 refuted : (t : Bool) → (T t → ⊥) → t ≡ false
@@ -22,22 +22,22 @@ never false = refl
 
 -- over the numbers below n
 module _ (p : ℕ → Bool) (n : ℕ) where
-  pub every-each : ((k : ℕ) → k < n → p k ≡ true) → every p (below n) ≡ true
-  every-each h = is_true (every p (below n)) (below-every p n (λ k l. of-true (h k l)))
+  pub every_each : ((k : ℕ) → k < n → p k ≡ true) → every p (below n) ≡ true
+  every_each h = is_true (every p (below n)) (below_every p n (λ k l. of_true (h k l)))
 
-  pub every-fails : (k : ℕ) → k < n → p k ≡ false → every p (below n) ≡ false
-  every-fails k l e = refuted (every p (below n)) (λ t. subst T e (every-below p n t k l))
+  pub every_fails : (k : ℕ) → k < n → p k ≡ false → every p (below n) ≡ false
+  every_fails k l e = refuted (every p (below n)) (λ t. subst T e (every_below p n t k l))
 
-  pub every-at : every p (below n) ≡ true → (k : ℕ) → k < n → p k ≡ true
-  every-at e k l = is_true (p k) (every-below p n (of-true e) k l)
+  pub every_at : every p (below n) ≡ true → (k : ℕ) → k < n → p k ≡ true
+  every_at e k l = is_true (p k) (every_below p n (of_true e) k l)
 
 -- over a list, by index
 module _ {A : Type 0} (p : A → Bool) (d : A) where
-  pub every-list : (xs : List A) → ((k : ℕ) → k < length xs → p (get_or xs k d) ≡ true) → every p xs ≡ true
-  every-list [] h = refl
-  every-list (x ∷ xs) h = rw (h 0 (omega arith)) (every-list xs (λ k l. h (suc k) (omega arith)))
+  pub every_list : (xs : List A) → ((k : ℕ) → k < length xs → p (get_or xs k d) ≡ true) → every p xs ≡ true
+  every_list [] h = refl
+  every_list (x ∷ xs) h = rw (h 0 (omega arith)) (every_list xs (λ k l. h (suc k) (omega arith)))
 
-  pub list-fails : (xs : List A) (k : ℕ) → k < length xs → p (get_or xs k d) ≡ false → every p xs ≡ false
-  list-fails [] k l e = let z : ⊥ = omega arith in absurd z
-  list-fails (x ∷ xs) zero l e = rw e refl
-  list-fails (x ∷ xs) (suc k) l e = rw (list-fails xs k (omega arith) e) (never (p x))
+  pub list_fails : (xs : List A) (k : ℕ) → k < length xs → p (get_or xs k d) ≡ false → every p xs ≡ false
+  list_fails [] k l e = let z : ⊥ = omega arith in absurd z
+  list_fails (x ∷ xs) zero l e = rw e refl
+  list_fails (x ∷ xs) (suc k) l e = rw (list_fails xs k (omega arith) e) (never (p x))

@@ -14,13 +14,13 @@ module _ (z : ℤ) (f : mag z < 2 ^ 63) where
   back : to_z w64 (of_z w64 z) ≡ z
   back = to_z-of_z (record { sfits = f })
 
-  pub too-high : lt_z (pos 4294967296) (to_z w64 (of_z w64 z)) ≡ true → moderate z ≡ false
+  pub too_high : lt_z (pos 4294967296) (to_z w64 (of_z w64 z)) ≡ true → moderate z ≡ false
   unfolding moderate
-  too-high t = rw (rw back at t) refl
+  too_high t = rw (rw back at t) refl
 
-  pub too-low : lt_z (to_z w64 (of_z w64 z)) (negsuc 4294967295) ≡ true → moderate z ≡ false
+  pub too_low : lt_z (to_z w64 (of_z w64 z)) (negsuc 4294967295) ≡ true → moderate z ≡ false
   unfolding moderate
-  too-low t = rw (rw back at t) (never (not (lt_z (pos 4294967296) z)))
+  too_low t = rw (rw back at t) (never (not (lt_z (pos 4294967296) z)))
 
   pub within : lt_z (pos 4294967296) (to_z w64 (of_z w64 z)) ≡ false → lt_z (to_z w64 (of_z w64 z)) (negsuc 4294967295) ≡ false → moderate z ≡ true
   unfolding moderate

@@ -3,15 +3,15 @@ use Rattle.std.specs.Prelude.{◌≡◌, Bool, not, List, ℕ, ◌+◌, ◌≤�
 use Rattle.rules.specs.declared.Settings.{Settings}
 use Rattle.rules.specs.Lists.{every, below}
 use Rattle.rules.specs.Order.{Input}
-use Rattle.rules.specs.Numbers.{isHome, allHome}
+use Rattle.rules.specs.Numbers.{is_home, all_home}
 
 -- r says whether one of the keys is outside bucket b
 pub record Strays (s : Settings) (keys : List ℕ) (b : ℕ) (r : Bool) : Type 0 where
-  pub is : (i : Input) → i.settings ≡ s → r ≡ not (every (isHome i b) keys)
+  pub is : (i : Input) → i.settings ≡ s → r ≡ not (every (is_home i b) keys)
 
 -- r says whether one of the first n buckets has a key outside it
 pub record Strayed (s : Settings) (hashes begins : List ℕ) (n : ℕ) (r : Bool) : Type 0 where
-  pub is : (i : Input) → i.settings ≡ s → i.hashes ≡ hashes → i.begins ≡ begins → r ≡ not (every (allHome i) (below n))
+  pub is : (i : Input) → i.settings ≡ s → i.hashes ≡ hashes → i.begins ≡ begins → r ≡ not (every (all_home i) (below n))
 
 -- begins has a place for n buckets, rises over them, and ends within the keys
 pub record Begun (begins : List ℕ) (n keys : ℕ) : Type 0 where

@@ -2,8 +2,8 @@
 use Rattle.std.specs.Prelude.{◌≡◌, List, ℕ}
 use Rattle.rules.specs.Lists.{below}
 use Rattle.rules.specs.Order.{Input}
-use Rattle.rules.specs.Numbers.{largestOf}
+use Rattle.rules.specs.Numbers.{largest_of}
 
 -- z is the largest size of the first n buckets of any input with these begins
 pub record Largest (begins : List ℕ) (n z : ℕ) : Type 0 where
-  pub same : (i : Input) → i.begins ≡ begins → z ≡ largestOf i (below n)
+  pub same : (i : Input) → i.begins ≡ begins → z ≡ largest_of i (below n)

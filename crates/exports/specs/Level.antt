@@ -3,8 +3,8 @@ use Rattle.std.specs.Prelude.{ℕ, Bool}
 use Rattle.rules.specs.declared.How.{How}
 use Rattle.rules.specs.declared.Settings.{Settings}
 
-abbrev pub settingsOf : (m log2SliceLen ll sb buckets : ℕ) → Settings
-settingsOf m log2SliceLen ll sb buckets = record { m = m; log2_slice_len = log2SliceLen; ll = ll; sb = sb; buckets = buckets }
+abbrev pub settings_of : (m log2SliceLen ll sb buckets : ℕ) → Settings
+settings_of m log2SliceLen ll sb buckets = record { m = m; log2_slice_len = log2SliceLen; ll = ll; sb = sb; buckets = buckets }
 
-abbrev pub howOf : (bump : Bool) (chunks : ℕ) → How
-howOf bump chunks = record { bump = bump; chunks = chunks }
+abbrev pub how_of : (bump : Bool) (chunks : ℕ) → How
+how_of bump chunks = record { bump = bump; chunks = chunks }

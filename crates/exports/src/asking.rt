@@ -1,10 +1,10 @@
 // Where a finished level has its keys.
 ghost use Rattle.std.specs.Prelude.{◌≡◌, map, length};
-ghost use Rattle.rules.specs.Answers.{lookupAnswer};
+ghost use Rattle.rules.specs.Answers.{lookup_answer};
 ghost use Rattle.geometry.specs.Shape.{Made};
-ghost use Rattle.exports.specs.Level.{settingsOf};
-ghost use Rattle.exports.specs.Told.{numberTold, slotTold};
-ghost use Rattle.exports.specs.Positions.{slot_of, positionsNumber, positionsSlots};
+ghost use Rattle.exports.specs.Level.{settings_of};
+ghost use Rattle.exports.specs.Told.{number_told, slot_told};
+ghost use Rattle.exports.specs.Positions.{slot_of, positions_number, positions_slots};
 
 use geometry::settings::number_to_6;
 use geometry::shape::{Geometry, geometry_of};
@@ -24,8 +24,8 @@ pub extern "C" fn phastr_lookup(
     hash: u64,
     slot: &mut u64,
 ) -> u64
-    ensures answer { result ≡ numberTold (lookupAnswer (settingsOf m log2_slice_len ll sb buckets) seeds.now hash) }
-    ensures found { slot.new ≡ slotTold (lookupAnswer (settingsOf m log2_slice_len ll sb buckets) seeds.now hash) slot.old }
+    ensures answer { result ≡ number_told (lookup_answer (settings_of m log2_slice_len ll sb buckets) seeds.now hash) }
+    ensures found { slot.new ≡ slot_told (lookup_answer (settings_of m log2_slice_len ll sb buckets) seeds.now hash) slot.old }
 {
     let s = Settings {
         m: m,
@@ -100,8 +100,8 @@ pub extern "C" fn phastr_positions(
     hashes: &[u64],
     slots: &mut [u64],
 ) -> u64
-    ensures answer { result ≡ positionsNumber (settingsOf m log2_slice_len ll sb buckets) seeds.now hashes.now slots.old }
-    ensures found { slots.new ≡ positionsSlots (settingsOf m log2_slice_len ll sb buckets) seeds.now hashes.now slots.old }
+    ensures answer { result ≡ positions_number (settings_of m log2_slice_len ll sb buckets) seeds.now hashes.now slots.old }
+    ensures found { slots.new ≡ positions_slots (settings_of m log2_slice_len ll sb buckets) seeds.now hashes.now slots.old }
 {
     let s = Settings {
         m: m,

@@ -1,16 +1,16 @@
 // The check of a finished level.
 ghost use Rattle.std.specs.Prelude.{◌≡◌};
-ghost use Rattle.level_check.specs.Check.{levelOf, saidMatched, checkAnswer, checkScratch};
-ghost use Rattle.exports.specs.Level.{settingsOf};
-ghost use Rattle.exports.specs.Told.{numberTold, bucketTold};
+ghost use Rattle.level_check.specs.Check.{level_of, said_matched, check_answer, check_scratch};
+ghost use Rattle.exports.specs.Level.{settings_of};
+ghost use Rattle.exports.specs.Told.{number_told, bucket_told};
 
 use level_check::{Matched, check_level};
 use rules::{Named, Settings};
 
 // Tells how a check ended: its number, and the bucket that it names.
 fn tell(matched: Matched, bucket: &mut u64) -> u64
-    ensures answer { result ≡ numberTold (saidMatched matched) }
-    ensures named { bucket.new ≡ bucketTold (saidMatched matched) bucket.old }
+    ensures answer { result ≡ number_told (said_matched matched) }
+    ensures named { bucket.new ≡ bucket_told (said_matched matched) bucket.old }
 {
     match matched {
         Matched::Accepted => 0,
@@ -42,11 +42,11 @@ pub extern "C" fn phastr_check_level(
     scratch: &mut [u64],
     bucket: &mut u64,
 ) -> u64
-    ensures answer { result ≡ numberTold (checkAnswer (levelOf (settingsOf m log2_slice_len ll sb buckets) hashes.now begins.now)
+    ensures answer { result ≡ number_told (check_answer (level_of (settings_of m log2_slice_len ll sb buckets) hashes.now begins.now)
         seeds.now bitmap.now scratch.old) }
-    ensures named { bucket.new ≡ bucketTold (checkAnswer (levelOf (settingsOf m log2_slice_len ll sb buckets) hashes.now begins.now)
+    ensures named { bucket.new ≡ bucket_told (check_answer (level_of (settings_of m log2_slice_len ll sb buckets) hashes.now begins.now)
         seeds.now bitmap.now scratch.old) bucket.old }
-    ensures zeroed { scratch.new ≡ checkScratch (levelOf (settingsOf m log2_slice_len ll sb buckets) hashes.now begins.now)
+    ensures zeroed { scratch.new ≡ check_scratch (level_of (settings_of m log2_slice_len ll sb buckets) hashes.now begins.now)
         seeds.now bitmap.now scratch.old }
 {
     let s = Settings {

@@ -1,11 +1,11 @@
 // Level files.
 ghost use Rattle.std.specs.Prelude.{◌≡◌, length, replicate};
-ghost use Rattle.level_file.specs.Format.{levelOf};
-ghost use Rattle.level_file.specs.Reading.{readFile};
-ghost use Rattle.level_file.specs.Answer.{readAnswer, seedsAfter, holesAfter};
-ghost use Rattle.level_file.specs.Writing.{writeAnswer, bytesAfter};
-ghost use Rattle.exports.specs.Level.{settingsOf};
-ghost use Rattle.exports.specs.Told.{numberTold, valuesTold, valueTold};
+ghost use Rattle.level_file.specs.Format.{level_of};
+ghost use Rattle.level_file.specs.Reading.{read_file};
+ghost use Rattle.level_file.specs.Answer.{read_answer, seeds_after, holes_after};
+ghost use Rattle.level_file.specs.Writing.{write_answer, bytes_after};
+ghost use Rattle.exports.specs.Level.{settings_of};
+ghost use Rattle.exports.specs.Told.{number_told, values_told, value_told};
 
 use level_file::{FileRead, FileWritten, read_file, write_file};
 use rules::Settings;
@@ -23,9 +23,9 @@ pub extern "C" fn phastr_level_write(
     out: &mut [u8],
     written: &mut u64,
 ) -> u64
-    ensures answer { result ≡ numberTold (writeAnswer (levelOf (settingsOf m log2_slice_len ll sb buckets) seeds.now holes.now) (length out.old)) }
-    ensures file { out.new ≡ bytesAfter (levelOf (settingsOf m log2_slice_len ll sb buckets) seeds.now holes.now) out.old }
-    ensures long { written.new ≡ valueTold (writeAnswer (levelOf (settingsOf m log2_slice_len ll sb buckets) seeds.now holes.now) (length out.old)) 0 }
+    ensures answer { result ≡ number_told (write_answer (level_of (settings_of m log2_slice_len ll sb buckets) seeds.now holes.now) (length out.old)) }
+    ensures file { out.new ≡ bytes_after (level_of (settings_of m log2_slice_len ll sb buckets) seeds.now holes.now) out.old }
+    ensures long { written.new ≡ value_told (write_answer (level_of (settings_of m log2_slice_len ll sb buckets) seeds.now holes.now) (length out.old)) 0 }
 {
     let s = Settings {
         m: m,
@@ -54,10 +54,10 @@ pub extern "C" fn phastr_level_read(
     holes: &mut [u32],
     level: &mut [u64; 6],
 ) -> u64
-    ensures answer { result ≡ numberTold (readAnswer (readFile bytes.now (length seeds.old) (length holes.old))) }
-    ensures given { seeds.new ≡ seedsAfter (readFile bytes.now (length seeds.old) (length holes.old)) seeds.old }
-    ensures listed { holes.new ≡ holesAfter (readFile bytes.now (length seeds.old) (length holes.old)) holes.old }
-    ensures told { level.new ≡ valuesTold (readAnswer (readFile bytes.now (length seeds.old) (length holes.old))) (replicate 6 0) }
+    ensures answer { result ≡ number_told (read_answer (read_file bytes.now (length seeds.old) (length holes.old))) }
+    ensures given { seeds.new ≡ seeds_after (read_file bytes.now (length seeds.old) (length holes.old)) seeds.old }
+    ensures listed { holes.new ≡ holes_after (read_file bytes.now (length seeds.old) (length holes.old)) holes.old }
+    ensures told { level.new ≡ values_told (read_answer (read_file bytes.now (length seeds.old) (length holes.old))) (replicate 6 0) }
 {
     match read_file(bytes, seeds, holes) {
         FileRead::Level {

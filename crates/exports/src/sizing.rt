@@ -1,11 +1,11 @@
 // What a caller has to lend, and tables of logarithms.
 ghost use Rattle.std.specs.Prelude.{◌≡◌, length};
-ghost use Rattle.rules.specs.Answers.{countAnswer};
-ghost use Rattle.log_table.specs.House.{houseTable, House};
-ghost use Rattle.log_table.specs.Logs.{logAnswer, logsOut};
-ghost use Rattle.exports.specs.Level.{settingsOf};
-ghost use Rattle.exports.specs.Told.{numberTold, valueTold};
-ghost use Rattle.exports.specs.Sizes.{sizesNumber, sizesAfter};
+ghost use Rattle.rules.specs.Answers.{count_answer};
+ghost use Rattle.log_table.specs.House.{house_table, House};
+ghost use Rattle.log_table.specs.Logs.{log_answer, logs_out};
+ghost use Rattle.exports.specs.Level.{settings_of};
+ghost use Rattle.exports.specs.Told.{number_told, value_told};
+ghost use Rattle.exports.specs.Sizes.{sizes_number, sizes_after};
 
 use geometry::count::bucket_count;
 use geometry::settings::number_to_7;
@@ -22,8 +22,8 @@ pub extern "C" fn phastr_bucket_count(
     size: f64,
     count: &mut u64,
 ) -> u64
-    ensures answer { result ≡ numberTold (countAnswer log2_slice_len keys size) }
-    ensures counted { count.new ≡ valueTold (countAnswer log2_slice_len keys size) count.old }
+    ensures answer { result ≡ number_told (count_answer log2_slice_len keys size) }
+    ensures counted { count.new ≡ value_told (count_answer log2_slice_len keys size) count.old }
 {
     match bucket_count(log2_slice_len, keys, size) {
         Counted::Buckets(n) => {
@@ -46,8 +46,8 @@ pub extern "C" fn phastr_sizes(
     z: u64,
     sizes: &mut [u64; 3],
 ) -> u64
-    ensures answer { result ≡ sizesNumber (settingsOf m log2_slice_len ll sb buckets) z }
-    ensures sized { sizes.new ≡ sizesAfter (settingsOf m log2_slice_len ll sb buckets) z sizes.old }
+    ensures answer { result ≡ sizes_number (settings_of m log2_slice_len ll sb buckets) z }
+    ensures sized { sizes.new ≡ sizes_after (settings_of m log2_slice_len ll sb buckets) z sizes.old }
 {
     let s = Settings {
         m: m,
@@ -72,7 +72,7 @@ pub extern "C" fn phastr_sizes(
 // Writes the house table.
 #[unsafe(no_mangle)]
 pub extern "C" fn phastr_house_table(table: &mut [u32; 2048])
-    ensures { (table.new ≡ houseTable) × House table.new }
+    ensures { (table.new ≡ house_table) × House table.new }
 {
     *table = house();
 }
@@ -80,8 +80,8 @@ pub extern "C" fn phastr_house_table(table: &mut [u32; 2048])
 // Fills a table of logarithms, of the length lent. 21 where that is 0 or above 131,072.
 #[unsafe(no_mangle)]
 pub extern "C" fn phastr_log_table(table: &mut [u32]) -> u64
-    ensures answer { result ≡ numberTold (logAnswer (length table.old)) }
-    ensures buffer { table.new ≡ logsOut table.old }
+    ensures answer { result ≡ number_told (log_answer (length table.old)) }
+    ensures buffer { table.new ≡ logs_out table.old }
 {
     match make_logs(table) {
         Checked::Fine => 0,

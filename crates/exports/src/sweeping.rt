@@ -1,10 +1,10 @@
 // A sweep and its holes.
 ghost use Rattle.std.specs.Prelude.{◌≡◌};
 ghost use Rattle.rules.specs.Numbers.{lent_of};
-ghost use Rattle.rules.specs.Order.{byLowBits, input_of};
-ghost use Rattle.rules.specs.Answers.{saidOutcome, sweepAnswer, sweepSeeds, sweepBitmap, sweepWork, holesAnswer, holesOut};
-ghost use Rattle.exports.specs.Level.{settingsOf, howOf};
-ghost use Rattle.exports.specs.Told.{numberTold, valuesTold, valueTold, bucketTold};
+ghost use Rattle.rules.specs.Order.{by_low_bits, input_of};
+ghost use Rattle.rules.specs.Answers.{said_outcome, sweep_answer, sweep_seeds, sweep_bitmap, sweep_work, holes_answer, holes_out};
+ghost use Rattle.exports.specs.Level.{settings_of, how_of};
+ghost use Rattle.exports.specs.Told.{number_told, values_told, value_told, bucket_told};
 
 use holes::holes;
 use rules::{How, Listed, Named, Outcome, Settings};
@@ -12,9 +12,9 @@ use sweep::sweep;
 
 // Tells how a sweep ended: its number, and the counts or the bucket that it names.
 fn tell(outcome: Outcome, counts: &mut [u64; 3], bucket: &mut u64) -> u64
-    ensures answer { result ≡ numberTold (saidOutcome outcome) }
-    ensures counted { counts.new ≡ valuesTold (saidOutcome outcome) counts.old }
-    ensures named { bucket.new ≡ bucketTold (saidOutcome outcome) bucket.old }
+    ensures answer { result ≡ number_told (said_outcome outcome) }
+    ensures counted { counts.new ≡ values_told (said_outcome outcome) counts.old }
+    ensures named { bucket.new ≡ bucket_told (said_outcome outcome) bucket.old }
 {
     match outcome {
         Outcome::Done(c) => {
@@ -53,23 +53,23 @@ pub extern "C" fn phastr_sweep(
     counts: &mut [u64; 3],
     bucket: &mut u64,
 ) -> u64
-    ensures answer { result ≡ numberTold (sweepAnswer byLowBits (howOf bump chunks)
-        (input_of (settingsOf m log2_slice_len ll sb buckets) weights.now hashes.now begins.now table.now)
+    ensures answer { result ≡ number_told (sweep_answer by_low_bits (how_of bump chunks)
+        (input_of (settings_of m log2_slice_len ll sb buckets) weights.now hashes.now begins.now table.now)
         (lent_of seeds.old bitmap.old work.old)) }
-    ensures given { seeds.new ≡ sweepSeeds byLowBits (howOf bump chunks)
-        (input_of (settingsOf m log2_slice_len ll sb buckets) weights.now hashes.now begins.now table.now)
+    ensures given { seeds.new ≡ sweep_seeds by_low_bits (how_of bump chunks)
+        (input_of (settings_of m log2_slice_len ll sb buckets) weights.now hashes.now begins.now table.now)
         (lent_of seeds.old bitmap.old work.old) seeds.old }
-    ensures marked { bitmap.new ≡ sweepBitmap byLowBits (howOf bump chunks)
-        (input_of (settingsOf m log2_slice_len ll sb buckets) weights.now hashes.now begins.now table.now)
+    ensures marked { bitmap.new ≡ sweep_bitmap by_low_bits (how_of bump chunks)
+        (input_of (settings_of m log2_slice_len ll sb buckets) weights.now hashes.now begins.now table.now)
         (lent_of seeds.old bitmap.old work.old) bitmap.old }
-    ensures worked { work.new ≡ sweepWork (howOf bump chunks)
-        (input_of (settingsOf m log2_slice_len ll sb buckets) weights.now hashes.now begins.now table.now)
+    ensures worked { work.new ≡ sweep_work (how_of bump chunks)
+        (input_of (settings_of m log2_slice_len ll sb buckets) weights.now hashes.now begins.now table.now)
         (lent_of seeds.old bitmap.old work.old) work.old }
-    ensures counted { counts.new ≡ valuesTold (sweepAnswer byLowBits (howOf bump chunks)
-        (input_of (settingsOf m log2_slice_len ll sb buckets) weights.now hashes.now begins.now table.now)
+    ensures counted { counts.new ≡ values_told (sweep_answer by_low_bits (how_of bump chunks)
+        (input_of (settings_of m log2_slice_len ll sb buckets) weights.now hashes.now begins.now table.now)
         (lent_of seeds.old bitmap.old work.old)) counts.old }
-    ensures named { bucket.new ≡ bucketTold (sweepAnswer byLowBits (howOf bump chunks)
-        (input_of (settingsOf m log2_slice_len ll sb buckets) weights.now hashes.now begins.now table.now)
+    ensures named { bucket.new ≡ bucket_told (sweep_answer by_low_bits (how_of bump chunks)
+        (input_of (settings_of m log2_slice_len ll sb buckets) weights.now hashes.now begins.now table.now)
         (lent_of seeds.old bitmap.old work.old)) bucket.old }
 {
     let s = Settings {
@@ -91,9 +91,9 @@ pub extern "C" fn phastr_sweep(
 // Lists the unmarked slots below m. 0: count has how many there are.
 #[unsafe(no_mangle)]
 pub extern "C" fn phastr_holes(m: u64, bitmap: &[u64], out: &mut [u32], count: &mut u64) -> u64
-    ensures answer { result ≡ numberTold (holesAnswer m bitmap.now out.old) }
-    ensures buffer { out.new ≡ holesOut m bitmap.now out.old }
-    ensures counted { count.new ≡ valueTold (holesAnswer m bitmap.now out.old) count.old }
+    ensures answer { result ≡ number_told (holes_answer m bitmap.now out.old) }
+    ensures buffer { out.new ≡ holes_out m bitmap.now out.old }
+    ensures counted { count.new ≡ value_told (holes_answer m bitmap.now out.old) count.old }
 {
     match holes(m, bitmap, out) {
         Listed::Holes(n) => {

@@ -4,27 +4,27 @@ use Rattle.std.proofs.Common.{◌≡◌, ℕ, ◌+◌, ◌-◌, ◌*◌, ◌/◌
 use lib.Arith.{digits_div, digits_mod}
 use Rattle.rules.specs.declared.Settings.{Settings}
 use Rattle.rules.specs.Geometry as G
-use Rattle.integers.specs.Power.{leastPower}
-use Rattle.integers.specs.Division.{carry, part-lt}
+use Rattle.integers.specs.Power.{least_power}
+use Rattle.integers.specs.Division.{carry, part_lt}
 use Rattle.geometry.specs.declared.shape.Geometry.{Geometry}
-use Rattle.geometry.specs.Shape.{geometryOf}
+use Rattle.geometry.specs.Shape.{geometry_of}
 
 module _ (ns b : ℕ) (pos : 0 < b) where
   whole : ns * 2 ^ 64 / b ≡ ns / b * 2 ^ 64 + ns % b * 2 ^ 64 / b
   whole = carry ns (2 ^ 64) b pos
 
   small : ns % b * 2 ^ 64 / b < 2 ^ 64
-  small = part-lt (ns % b) (2 ^ 64) b (mod-lt ns pos) (pow_pos 64)
+  small = part_lt (ns % b) (2 ^ 64) b (mod-lt ns pos) (pow_pos 64)
 
-  quotient-hi : ns * 2 ^ 64 / b / 2 ^ 64 ≡ ns / b
-  quotient-hi = ap (λ (x : ℕ). x / 2 ^ 64) whole ∙ digits_div (ns / b) small
+  quotient_hi : ns * 2 ^ 64 / b / 2 ^ 64 ≡ ns / b
+  quotient_hi = ap (λ (x : ℕ). x / 2 ^ 64) whole ∙ digits_div (ns / b) small
 
-  quotient-lo : ns * 2 ^ 64 / b % 2 ^ 64 ≡ ns % b * 2 ^ 64 / b
-  quotient-lo = ap (λ (x : ℕ). x % 2 ^ 64) whole ∙ digits_mod (ns / b) small
+  quotient_lo : ns * 2 ^ 64 / b % 2 ^ 64 ≡ ns % b * 2 ^ 64 / b
+  quotient_lo = ap (λ (x : ℕ). x % 2 ^ 64) whole ∙ digits_mod (ns / b) small
 
 pub assemble : (s : Settings) (l k ns sc la t p sp sd q sl : ℕ) → 0 < s.buckets
-    → l ≡ G.sliceLen s → k ≡ G.logLen s → ns ≡ G.slices s → sc ≡ k - s.sb → la ≡ 2 ^ s.ll → t ≡ min (s.ll + sc) k → p ≡ G.perBucket s → sp ≡ 2 ^ t
-    → sd ≡ 2 ^ s.sb → q ≡ ns % s.buckets * 2 ^ 64 / s.buckets → sl ≡ leastPower (4 * (l + 1) + 512 * p + 64 * sp)
+    → l ≡ G.slice_len s → k ≡ G.log_len s → ns ≡ G.slices s → sc ≡ k - s.sb → la ≡ 2 ^ s.ll → t ≡ min (s.ll + sc) k → p ≡ G.per_bucket s → sp ≡ 2 ^ t
+    → sd ≡ 2 ^ s.sb → q ≡ ns % s.buckets * 2 ^ 64 / s.buckets → sl ≡ least_power (4 * (l + 1) + 512 * p + 64 * sp)
     → ◌≡◌ {A = Geometry} (record {
       settings = s;
       l = l;
@@ -41,11 +41,11 @@ pub assemble : (s : Settings) (l k ns sc la t p sp sd q sl : ℕ) → 0 < s.buck
       slots = sl;
       entries = 95 + (p + 1) + l;
     })
-    (geometryOf s)
-unfolding geometryOf G.scale G.layouts G.stride G.ringLen G.rotations G.quotient G.ringSlots G.entries
+    (geometry_of s)
+unfolding geometry_of G.scale G.layouts G.stride G.ring_len G.rotations G.quotient G.ring_slots G.entries
 assemble s l k ns sc la t p sp sd q sl pos el ek en ec ea et ep esp esd eq es =
     let hi : ns / s.buckets ≡ G.slices s * 2 ^ 64 / s.buckets / 2 ^ 64 =
-    sym (quotient-hi ns s.buckets pos) ∙ ap (λ (n : ℕ). n * 2 ^ 64 / s.buckets / 2 ^ 64) en in
+    sym (quotient_hi ns s.buckets pos) ∙ ap (λ (n : ℕ). n * 2 ^ 64 / s.buckets / 2 ^ 64) en in
     let lo : q ≡ G.slices s * 2 ^ 64 / s.buckets % 2 ^ 64 =
-    eq ∙ sym (quotient-lo ns s.buckets pos) ∙ ap (λ (n : ℕ). n * 2 ^ 64 / s.buckets % 2 ^ 64) en in
+    eq ∙ sym (quotient_lo ns s.buckets pos) ∙ ap (λ (n : ℕ). n * 2 ^ 64 / s.buckets % 2 ^ 64) en in
     cc

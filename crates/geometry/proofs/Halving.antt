@@ -6,7 +6,7 @@ use lib.Ieee.Fits.{down_pos}
 use lib.Ieee.Exact.{HasValue, round_exact}
 use lib.Ieee.Back.{round_whole}
 use lib.Ieee.Positive.{num, den, den_pos, value→cross}
-use Rattle.rules.specs.BucketCount.{halfUp}
+use Rattle.rules.specs.BucketCount.{half_up}
 use Rattle.geometry.specs.Small.{Small}
 
 -- ---- the whole part
@@ -16,15 +16,15 @@ whole n d p h = div-le_of_le-mul d {m = n} {n = 67108864} (omega arith)
 uncapped : (a c : ℕ) → a ≤ 67108864 → 67108864 ≤ c → min a c ≡ a
 uncapped a c h k = omega arith
 
-pub small-part : (x : Float) → Small x → num x / den x ≤ 67108864
-small-part x s = whole (num x) (den x) (den_pos x) s.most
+pub small_part : (x : Float) → Small x → num x / den x ≤ 67108864
+small_part x s = whole (num x) (den x) (den_pos x) s.most
 
 pub whole_part : (x : Float) → Small x → to_unsigned 64 x ≡ num x / den x
 unfolding to_unsigned
 whole_part nan s = absurd s.value
 whole_part (inf t) s = absurd s.value
 whole_part (fin true m e) s = absurd (true≢false s.value.0)
-whole_part (fin false m e) s = uncapped (m * up e / down e) (2 ^ 64 - 1) (small-part (fin false m e) s) (lit≤ tt)
+whole_part (fin false m e) s = uncapped (m * up e / down e) (2 ^ 64 - 1) (small_part (fin false m e) s) (lit≤ tt)
 
 -- ---- what `truncating_f64_to_u64` requires
 above_minus_one : (d n : ℕ) → 0 < d → 0 < 1 * d + n * 1
@@ -93,45 +93,45 @@ half_is : of_bits binary64 0x3fe0_0000_0000_0000 ≡ fin false 1 (negsuc 0)
 unfolding of_bits
 half_is = refl
 
-pub ofInt-value : (t : ℕ) → t ≤ 2 ^ 53 → HasValue (of_int binary64 (pos t)) false t 1
+pub of_int_value : (t : ℕ) → t ≤ 2 ^ 53 → HasValue (of_int binary64 (pos t)) false t 1
 unfolding of_int
-ofInt-value t h = round_whole binary64 false t h
+of_int_value t h = round_whole binary64 false t h
 
-half-value : (t : ℕ) → t ≤ 67108864 → HasValue (half t) false (2 * t + 1) 2
-half-value t h = subst (λ (x : Float). HasValue (add binary64 (of_int binary64 (pos t)) x) false (2 * t + 1) 2) (sym half_is) (add_half (of_int binary64 (pos t)) t h (ofInt-value t (le_trans h (lit≤ tt))))
+half_value : (t : ℕ) → t ≤ 67108864 → HasValue (half t) false (2 * t + 1) 2
+half_value t h = subst (λ (x : Float). HasValue (add binary64 (of_int binary64 (pos t)) x) false (2 * t + 1) 2) (sym half_is) (add_half (of_int binary64 (pos t)) t h (of_int_value t (le_trans h (lit≤ tt))))
 
 -- two fractions n / d and y / f, of which the second is a / c, in the order of n / d and a / c
-cross-lt : (n d y f a c : ℕ) → 0 < f → 0 < c → y * c ≡ a * f → n * f < y * d → n * c < a * d
-cross-lt n d y f a c F C v h =
+cross_lt : (n d y f a c : ℕ) → 0 < f → 0 < c → y * c ≡ a * f → n * f < y * d → n * c < a * d
+cross_lt n d y f a c F C v h =
     let p : n * f * c < y * d * c = mul-lt-mul_of_pos_right h C in
     let r : y * c * d ≡ a * f * d = ap (λ (k : ℕ). k * d) v in
     lt_of_mul-lt-mul_right f {m = n * c} {n = a * d} (omega arith)
 
-cross-le : (n d y f a c : ℕ) → 0 < f → y * c ≡ a * f → y * d ≤ n * f → a * d ≤ n * c
-cross-le n d y f a c F v h =
+cross_le : (n d y f a c : ℕ) → 0 < f → y * c ≡ a * f → y * d ≤ n * f → a * d ≤ n * c
+cross_le n d y f a c F v h =
     let p : y * d * c ≤ n * f * c = mul-le-mul_right c h in
     let r : y * c * d ≡ a * f * d = ap (λ (k : ℕ). k * d) v in
     le_of_mul-le-mul_right {m = a * d} {n = n * c} {k = f} (omega arith) F
 
-pub lt-true : (x y : Float) (a c : ℕ) → Small x → 0 < c → HasValue y false a c → lt x y ≡ true → num x * c < a * den x
+pub lt_true : (x y : Float) (a c : ℕ) → Small x → 0 < c → HasValue y false a c → lt x y ≡ true → num x * c < a * den x
 unfolding lt
-lt-true nan y a c s C v h = absurd s.value
-lt-true (inf t) y a c s C v h = absurd s.value
-lt-true (fin true m e) y a c s C v h = absurd (true≢false s.value.0)
-lt-true (fin false m e) nan a c s C v h = absurd v
-lt-true (fin false m e) (inf t) a c s C v h = absurd v
-lt-true (fin false m e) (fin true n d) a c s C v h = absurd (true≢false v.0)
-lt-true (fin false m e) (fin false n d) a c s C v h = cross-lt (m * up e) (down e) (n * up d) (down d) a c (down_pos d) C v.1 (ltb-true _ _ h)
+lt_true nan y a c s C v h = absurd s.value
+lt_true (inf t) y a c s C v h = absurd s.value
+lt_true (fin true m e) y a c s C v h = absurd (true≢false s.value.0)
+lt_true (fin false m e) nan a c s C v h = absurd v
+lt_true (fin false m e) (inf t) a c s C v h = absurd v
+lt_true (fin false m e) (fin true n d) a c s C v h = absurd (true≢false v.0)
+lt_true (fin false m e) (fin false n d) a c s C v h = cross_lt (m * up e) (down e) (n * up d) (down d) a c (down_pos d) C v.1 (ltb-true _ _ h)
 
-pub lt-false : (x y : Float) (a c : ℕ) → Small x → HasValue y false a c → lt x y ≡ false → a * den x ≤ num x * c
+pub lt_false : (x y : Float) (a c : ℕ) → Small x → HasValue y false a c → lt x y ≡ false → a * den x ≤ num x * c
 unfolding lt
-lt-false nan y a c s v h = absurd s.value
-lt-false (inf t) y a c s v h = absurd s.value
-lt-false (fin true m e) y a c s v h = absurd (true≢false s.value.0)
-lt-false (fin false m e) nan a c s v h = absurd v
-lt-false (fin false m e) (inf t) a c s v h = absurd v
-lt-false (fin false m e) (fin true n d) a c s v h = absurd (true≢false v.0)
-lt-false (fin false m e) (fin false n d) a c s v h = cross-le (m * up e) (down e) (n * up d) (down d) a c (down_pos d) v.1 (ltb-false _ _ h)
+lt_false nan y a c s v h = absurd s.value
+lt_false (inf t) y a c s v h = absurd s.value
+lt_false (fin true m e) y a c s v h = absurd (true≢false s.value.0)
+lt_false (fin false m e) nan a c s v h = absurd v
+lt_false (fin false m e) (inf t) a c s v h = absurd v
+lt_false (fin false m e) (fin true n d) a c s v h = absurd (true≢false v.0)
+lt_false (fin false m e) (fin false n d) a c s v h = cross_le (m * up e) (down e) (n * up d) (down d) a c (down_pos d) v.1 (ltb-false _ _ h)
 
 -- ---- half up from the whole part
 module _ (N D : ℕ) (pos : 0 < D) where
@@ -146,21 +146,21 @@ module _ (N D : ℕ) (pos : 0 < D) where
       let r : N % D < D = mod-lt N pos in
       div-eq_of_lt-le {k = N / D + 1} (2 * D) {m = 2 * N + D} (omega arith) (omega arith)
 
-pub rounds-down : (x : Float) (t : ℕ) → Small x → t ≡ to_unsigned 64 x → lt x (half t) ≡ true → t ≡ halfUp x
-unfolding halfUp
-rounds-down x t s e h =
+pub rounds_down : (x : Float) (t : ℕ) → Small x → t ≡ to_unsigned 64 x → lt x (half t) ≡ true → t ≡ half_up x
+unfolding half_up
+rounds_down x t s e h =
     let e1 : t ≡ num x / den x = e ∙ whole_part x s in
-    let b : t ≤ 67108864 = subst (λ (k : ℕ). k ≤ 67108864) (sym e1) (small-part x s) in
-    let c : num x * 2 < (2 * t + 1) * den x = lt-true x (half t) (2 * t + 1) 2 s (lit< tt) (half-value t b) h in
+    let b : t ≤ 67108864 = subst (λ (k : ℕ). k ≤ 67108864) (sym e1) (small_part x s) in
+    let c : num x * 2 < (2 * t + 1) * den x = lt_true x (half t) (2 * t + 1) 2 s (lit< tt) (half_value t b) h in
     e1 ∙ sym (low (num x) (den x) (den_pos x) (subst (λ (k : ℕ). num x * 2 < (2 * k + 1) * den x) e1 c))
 
-pub rounds-up : (x : Float) (t : ℕ) → Small x → t ≡ to_unsigned 64 x → lt x (half t) ≡ false → t + 1 ≡ halfUp x
-unfolding halfUp
-rounds-up x t s e h =
+pub rounds_up : (x : Float) (t : ℕ) → Small x → t ≡ to_unsigned 64 x → lt x (half t) ≡ false → t + 1 ≡ half_up x
+unfolding half_up
+rounds_up x t s e h =
     let e1 : t ≡ num x / den x = e ∙ whole_part x s in
-    let b : t ≤ 67108864 = subst (λ (k : ℕ). k ≤ 67108864) (sym e1) (small-part x s) in
-    let c : (2 * t + 1) * den x ≤ num x * 2 = lt-false x (half t) (2 * t + 1) 2 s (half-value t b) h in
+    let b : t ≤ 67108864 = subst (λ (k : ℕ). k ≤ 67108864) (sym e1) (small_part x s) in
+    let c : (2 * t + 1) * den x ≤ num x * 2 = lt_false x (half t) (2 * t + 1) 2 s (half_value t b) h in
     ap (λ (k : ℕ). k + 1) e1 ∙ sym (high (num x) (den x) (den_pos x) (subst (λ (k : ℕ). (2 * k + 1) * den x ≤ num x * 2) e1 c))
 
 pub part_small : (x : Float) (t : ℕ) → Small x → t ≡ to_unsigned 64 x → t ≤ 67108864
-part_small x t s e = subst (λ (k : ℕ). k ≤ 67108864) (sym (e ∙ whole_part x s)) (small-part x s)
+part_small x t s e = subst (λ (k : ℕ). k ≤ 67108864) (sym (e ∙ whole_part x s)) (small_part x s)

@@ -13,23 +13,23 @@ first_halves b q =
     sym (mul-add-div_right {m = 2 ^ 64} (pow_pos 64) (b * (q / 2 ^ 64)) (b * (q % 2 ^ 64))) ∙ ap (λ (n : ℕ). n / 2 ^ 64) w
 
 -- a bucket's first slice is at most ns
-pub first-high : (s : Settings) (b : ℕ) → b ≤ s.buckets → G.first s b ≤ G.slices s
+pub first_high : (s : Settings) (b : ℕ) → b ≤ s.buckets → G.first s b ≤ G.slices s
 unfolding G.first G.quotient
-first-high s b h =
+first_high s b h =
     let q : ℕ = G.slices s * 2 ^ 64 / s.buckets in
     let a : b * q ≤ s.buckets * q = mul-le-mul_right q h in
     div-le_of_le-mul (2 ^ 64) {m = b * q} {n = G.slices s} (le_trans a (le_trans (mul-div-le (G.slices s * 2 ^ 64) s.buckets) (omega arith)))
 
 -- a layout's shift is below 64
-pub shift-lt : (r L : ℕ) → r < L → 1 ≤ L → L ≤ 64 → r * (64 / L) < 64
-shift-lt r L lt lo hi =
+pub shift_lt : (r L : ℕ) → r < L → 1 ≤ L → L ≤ 64 → r * (64 / L) < 64
+shift_lt r L lt lo hi =
     let b : 1 ≤ 64 / L = (le-div_iff_mul-le {k = L} {x = 1} {y = 64} lo).1 (omega arith) in
     let p : r * (64 / L) < L * (64 / L) = mul-lt-mul_of_pos_right lt b in
     lt_of_lt_of_le p (mul-div-le 64 L)
 
 -- a seed's shift
-pub seed-lt : (v k : ℕ) → v < 2 ^ 16 → k ≤ 16 → v * 2 ^ k < 2 ^ 32
-seed-lt v k hv hk = lt_of_lt_of_le (shl_lt {a = v} 16 k hv) (pow_mono {i = 16 + k} {j = 32} (omega arith))
+pub seed_lt : (v k : ℕ) → v < 2 ^ 16 → k ≤ 16 → v * 2 ^ k < 2 ^ 32
+seed_lt v k hv hk = lt_of_lt_of_le (shl_lt {a = v} 16 k hv) (pow_mono {i = 16 + k} {j = 32} (omega arith))
 
 -- the two masks take the remainder of the whole sum
 pub masked : (l k x y : ℕ) → l ≡ 2 ^ k → y < 2 ^ 64 → bit_and (bit_and x (l - 1) + y % 2 ^ 64) (l - 1) ≡ (x + y) % l

@@ -9,13 +9,13 @@ use lib.Ieee.Back.{round_whole}
 use lib.Ieee.Order.{round_mono}
 use lib.Ieee.Scale.{round_same}
 use lib.Ieee.Positive.{num, den, den_pos, positive, own_value, value→cross, positive_of_value, between, le→cross}
-use Rattle.rules.specs.BucketCount.{sizeFits, quotientFloat}
+use Rattle.rules.specs.BucketCount.{size_fits, quotient_float}
 use Rattle.geometry.specs.Small.{Small}
 
 -- ---- tests of numbers
 
-leb-same : (a b c d : ℕ) → (a ≤ b → c ≤ d) → (c ≤ d → a ≤ b) → leb a b ≡ leb c d
-leb-same a b c d f g = go (dec_le a b)
+leb_same : (a b c d : ℕ) → (a ≤ b → c ≤ d) → (c ≤ d → a ≤ b) → leb a b ≡ leb c d
+leb_same a b c d f g = go (dec_le a b)
   where
     go : Dec (a ≤ b) → leb a b ≡ leb c d
     go (yes h) = le-leb a b h ∙ sym (le-leb c d (f h))
@@ -38,48 +38,48 @@ le_test a b u = go (dec_le a b)
         let m : b < a = omega arith in
         simp (le-ltb a b (omega arith), ne_eqb a b (ne_of_gt m), lt-leb a b m)
 
-and-false : (x : Bool) → (x && false) ≡ false
-and-false true = refl
-and-false false = refl
+and_false : (x : Bool) → (x && false) ≡ false
+and_false true = refl
+and_false false = refl
 
 -- ---- the size's test
 
 abbrev one : Float
 one = fin false 1 (pos 0)
 
-pub one-is : of_bits binary64 0x3ff0_0000_0000_0000 ≡ one
+pub one_is : of_bits binary64 0x3ff0_0000_0000_0000 ≡ one
 unfolding of_bits
-one-is = refl
+one_is = refl
 
 -- a / d ≥ 1
 at_least : (n d : ℕ) → leb d n ≡ leb (1 * d) (n * 1)
-at_least n d = leb-same d n (1 * d) (n * 1) (λ h. omega arith) (λ h. omega arith)
+at_least n d = leb_same d n (1 * d) (n * 1) (λ h. omega arith) (λ h. omega arith)
 
 -- n / d ≤ y / f, which is c / 1
 at_most : (n d y f c : ℕ) → 0 < f → y * 1 ≡ c * f → leb n (c * d) ≡ leb (n * f) (y * d)
 at_most n d y f c F v =
     let v' : y ≡ c * f = omega arith in
-    leb-same n (c * d) (n * f) (y * d)
+    leb_same n (c * d) (n * f) (y * d)
     (λ h. let p : n * f ≤ c * d * f = mul-le-mul_right f h in subst (λ (k : ℕ). n * f ≤ k * d) (sym v') (omega arith))
     (λ h. let q : n * f ≤ c * f * d = subst (λ (k : ℕ). n * f ≤ k * d) v' h in le_of_mul-le-mul_right {m = n} {n = c * d} {k = f} (omega arith) F)
 
-pub sizeFits-is : (cap : ℕ) (z y : Float) → HasValue y false cap 1 → sizeFits cap z ≡ (le one z && le z y)
-unfolding sizeFits le lt eq
-sizeFits-is cap nan y v = refl
-sizeFits-is cap (inf true) y v = refl
-sizeFits-is cap (inf false) nan v = absurd v
-sizeFits-is cap (inf false) (inf t) v = absurd v
-sizeFits-is cap (inf false) (fin t n d) v = refl
-sizeFits-is cap (fin true m e) y v =
-    let h : eqb (1 * down e) 0 ≡ false = ne_eqb (1 * down e) 0 (not-zero (down e) (down_pos e)) in
-    sym (ap (λ (b : Bool). (eqb (1 * down e) (m * up e * 1) && b) && le (fin true m e) y) h ∙ ap (λ (b : Bool). b && le (fin true m e) y) (and-false (eqb (1 * down e) (m * up e * 1))))
+pub size_fits_is : (cap : ℕ) (z y : Float) → HasValue y false cap 1 → size_fits cap z ≡ (le one z && le z y)
+unfolding size_fits le lt eq
+size_fits_is cap nan y v = refl
+size_fits_is cap (inf true) y v = refl
+size_fits_is cap (inf false) nan v = absurd v
+size_fits_is cap (inf false) (inf t) v = absurd v
+size_fits_is cap (inf false) (fin t n d) v = refl
+size_fits_is cap (fin true m e) y v =
+    let h : eqb (1 * down e) 0 ≡ false = ne_eqb (1 * down e) 0 (not_zero (down e) (down_pos e)) in
+    sym (ap (λ (b : Bool). (eqb (1 * down e) (m * up e * 1) && b) && le (fin true m e) y) h ∙ ap (λ (b : Bool). b && le (fin true m e) y) (and_false (eqb (1 * down e) (m * up e * 1))))
   where
-    not-zero : (d : ℕ) → 0 < d → 1 * d ≡ 0 → ⊥
-    not-zero d p q = omega arith
-sizeFits-is cap (fin false m e) nan v = absurd v
-sizeFits-is cap (fin false m e) (inf t) v = absurd v
-sizeFits-is cap (fin false m e) (fin true n d) v = absurd (true≢false v.0)
-sizeFits-is cap (fin false m e) (fin false n d) v =
+    not_zero : (d : ℕ) → 0 < d → 1 * d ≡ 0 → ⊥
+    not_zero d p q = omega arith
+size_fits_is cap (fin false m e) nan v = absurd v
+size_fits_is cap (fin false m e) (inf t) v = absurd v
+size_fits_is cap (fin false m e) (fin true n d) v = absurd (true≢false v.0)
+size_fits_is cap (fin false m e) (fin false n d) v =
     ap₂ ◌&&◌ (at_least (m * up e) (down e) ∙ sym (le_test (1 * down e) (m * up e * 1) (eqb (1 * down e) 0)))
     (at_most (m * up e) (down e) (n * up d) (down d) cap (down_pos d) v.1 ∙ sym (le_test (m * up e * down d) (n * up d * down e) (eqb (m * up e * down d) 0)))
 
@@ -93,8 +93,8 @@ and_both : (a b : Bool) → (a && b) ≡ true → (a ≡ true) × (b ≡ true)
 and_both true b h = (refl, h)
 and_both false b h = absurd (true≢false (sym h))
 
-pub sizes : (cap : ℕ) (z : Float) → sizeFits cap z ≡ true → Sizes cap z
-unfolding sizeFits
+pub sizes : (cap : ℕ) (z : Float) → size_fits cap z ≡ true → Sizes cap z
+unfolding size_fits
 sizes cap nan h = absurd (true≢false (sym h))
 sizes cap (inf s) h = absurd (true≢false (sym h))
 sizes cap (fin true m e) h = absurd (true≢false (sym h))
@@ -113,13 +113,13 @@ sizes cap (fin false m e) h =
 
 -- ---- the quotient: the machine divides the float k by the size, and rounds the exact fraction once
 
-same-fraction : (n u d k f : ℕ) → n * 1 ≡ k * u → n * d * f ≡ k * d * (f * u)
-same-fraction n u d k f v =
+same_fraction : (n u d k f : ℕ) → n * 1 ≡ k * u → n * d * f ≡ k * d * (f * u)
+same_fraction n u d k f v =
     let v' : n ≡ k * u = omega arith in
     ap (λ (x : ℕ). x * d * f) v' ∙ (omega arith)
 
-pub div_is : (x z : Float) (k : ℕ) → HasValue x false k 1 → T (positive z) → div binary64 x z ≡ quotientFloat k z
-unfolding div quotientFloat
+pub div_is : (x z : Float) (k : ℕ) → HasValue x false k 1 → T (positive z) → div binary64 x z ≡ quotient_float k z
+unfolding div quotient_float
 div_is nan z k v p = absurd v
 div_is (inf s) z k v p = absurd v
 div_is (fin true m e) z k v p = absurd (true≢false v.0)
@@ -131,7 +131,7 @@ div_is (fin false m e) (fin false n d) k v p =
     let z : eqb n 0 ≡ false = ne_eqb n 0 (ne_of_gt h) in
     ap (λ (b : Bool). cond b (cond (eqb m 0) nan (inf false)) (round binary64 false (m * up e * down d) (n * up d * down e))) z
     ∙ round_same binary64 false (m * up e * down d) (n * up d * down e) (k * down d) (n * up d) (mul-pos (mul-pos h (up_pos d)) (down_pos e)) (mul-pos h (up_pos d))
-    (same-fraction (m * up e) (down e) (down d) k (n * up d) v.1)
+    (same_fraction (m * up e) (down e) (down d) k (n * up d) v.1)
 
 -- ---- the quotient is finite, not negative and at most k
 
@@ -148,9 +148,9 @@ none : (n f d : ℕ) → 0 < f → n * f ≡ 0 * d → n ≡ 0
 none zero f d p h = refl
 none (suc n) f d p h = let z : suc n * f ≡ 0 = h ∙ zero-mul d in absurd (ne_of_gt (mul-pos {m = suc n} {n = f} (omega arith) p) z)
 
-quotient-zero : (z : Float) (cap : ℕ) → Sizes cap z → Small (quotientFloat 0 z)
-unfolding quotientFloat
-quotient-zero z cap s =
+quotient_zero : (z : Float) (cap : ℕ) → Sizes cap z → Small (quotient_float 0 z)
+unfolding quotient_float
+quotient_zero z cap s =
     let q = round binary64 false (0 * den z) (num z) in
     let v : HasValue q false (0 * den z) (num z) =
     round_exact binary64 false (0 * den z) (num z) 0 0 (num_pos z cap s) (lit< tt) (lit< tt) (ap (λ (k : ℕ). k * 2 ^ 1074) (zero-mul (den z)) ∙ zero-mul (2 ^ 1074) ∙ sym (zero-mul (num z))) in
@@ -159,15 +159,15 @@ quotient-zero z cap s =
     record { value = own q (0 * den z) (num z) v; most = subst (λ (k : ℕ). k ≤ 67108864 * den q) (sym n) (omega arith) }
 
 -- 1 / 64
-least-float : Float
-least-float = round binary64 false 1 64
+least_float : Float
+least_float = round binary64 false 1 64
 
 bound : (n f k d : ℕ) → 0 < f → n * f ≤ k * f * d → n ≤ k * d
 bound n f k d F h = le_of_mul-le-mul_right {m = n} {n = k * d} {k = f} (omega arith) F
 
-quotient-some : (k : ℕ) (z : Float) → 0 < k → k ≤ 67108864 → Sizes 64 z → Small (quotientFloat k z)
-unfolding quotientFloat
-quotient-some k z K L s =
+quotient_some : (k : ℕ) (z : Float) → 0 < k → k ≤ 67108864 → Sizes 64 z → Small (quotient_float k z)
+unfolding quotient_float
+quotient_some k z K L s =
     let q = round binary64 false (k * den z) (num z) in
     let lo = round binary64 false 1 64 in
     let hi = round binary64 false k 1 in
@@ -188,40 +188,40 @@ quotient-some k z K L s =
     let b : num q ≤ k * den q = bound (num q) (den hi) k (den q) (den_pos hi) c' in
     record { value = own_value q pq; most = le_trans b (mul-le-mul_right (den q) L) }
 
-pub quotient-small : (k cap : ℕ) (z : Float) → k ≤ 67108864 → cap ≤ 64 → Sizes cap z → Small (quotientFloat k z)
-quotient-small k cap z L C s = go (eq-zero-or-pos k)
+pub quotient_small : (k cap : ℕ) (z : Float) → k ≤ 67108864 → cap ≤ 64 → Sizes cap z → Small (quotient_float k z)
+quotient_small k cap z L C s = go (eq-zero-or-pos k)
   where
     wider : Sizes 64 z
     wider = record { above = s.above; least = s.least; most = le_trans s.most (mul-le-mul_right (den z) C) }
 
-    go : (k ≡ zero) ⊎ (zero < k) → Small (quotientFloat k z)
-    go (inl e) = subst (λ (n : ℕ). Small (quotientFloat n z)) (sym e) (quotient-zero z cap s)
-    go (inr p) = quotient-some k z p L wider
+    go : (k ≡ zero) ⊎ (zero < k) → Small (quotient_float k z)
+    go (inl e) = subst (λ (n : ℕ). Small (quotient_float n z)) (sym e) (quotient_zero z cap s)
+    go (inr p) = quotient_some k z p L wider
 
 -- ---- the tests as the code makes them: each is negated, so that a NaN is refused
-abbrev pub low-test : Float → Bool
-low-test z = not (le (of_bits binary64 0x3ff0_0000_0000_0000) z)
+abbrev pub low_test : Float → Bool
+low_test z = not (le (of_bits binary64 0x3ff0_0000_0000_0000) z)
 
-abbrev pub high-test : ℕ → Float → Bool
-high-test cap z = not (le z (of_int binary64 (pos cap)))
+abbrev pub high_test : ℕ → Float → Bool
+high_test cap z = not (le z (of_int binary64 (pos cap)))
 
-cap-value : (cap : ℕ) → cap ≤ 64 → HasValue (of_int binary64 (pos cap)) false cap 1
+cap_value : (cap : ℕ) → cap ≤ 64 → HasValue (of_int binary64 (pos cap)) false cap 1
 unfolding of_int
-cap-value cap h = round_whole binary64 false cap (le_trans h (lit≤ tt))
+cap_value cap h = round_whole binary64 false cap (le_trans h (lit≤ tt))
 
 -- both tests at once
-pub by_tests : (cap : ℕ) (z : Float) → cap ≤ 64 → not (sizeFits cap z) ≡ (low-test z || high-test cap z)
+pub by_tests : (cap : ℕ) (z : Float) → cap ≤ 64 → not (size_fits cap z) ≡ (low_test z || high_test cap z)
 by_tests cap z h =
-    ap not (sizeFits-is cap z (of_int binary64 (pos cap)) (cap-value cap h) ∙ ap (λ (o : Float). le o z && le z (of_int binary64 (pos cap))) (sym one-is))
+    ap not (size_fits_is cap z (of_int binary64 (pos cap)) (cap_value cap h) ∙ ap (λ (o : Float). le o z && le z (of_int binary64 (pos cap))) (sym one_is))
     ∙ apart (le (of_bits binary64 0x3ff0_0000_0000_0000) z) (le z (of_int binary64 (pos cap)))
   where
     apart : (a b : Bool) → not (a && b) ≡ (not a || not b)
     apart true b = refl
     apart false b = refl
 
-pub fits_by : (cap : ℕ) (z : Float) → cap ≤ 64 → low-test z ≡ false → high-test cap z ≡ false → sizeFits cap z ≡ true
-fits_by cap z h a b = not-false (sizeFits cap z) (by_tests cap z h ∙ ap₂ ◌||◌ a b)
+pub fits_by : (cap : ℕ) (z : Float) → cap ≤ 64 → low_test z ≡ false → high_test cap z ≡ false → size_fits cap z ≡ true
+fits_by cap z h a b = not-false (size_fits cap z) (by_tests cap z h ∙ ap₂ ◌||◌ a b)
 
-pub quotient_is : (k : ℕ) (z : Float) → k ≤ 67108864 → T (positive z) → div binary64 (of_int binary64 (pos k)) z ≡ quotientFloat k z
+pub quotient_is : (k : ℕ) (z : Float) → k ≤ 67108864 → T (positive z) → div binary64 (of_int binary64 (pos k)) z ≡ quotient_float k z
 unfolding of_int
 quotient_is k z h p = div_is (of_int binary64 (pos k)) z k (round_whole binary64 false k (le_trans h (lit≤ tt))) p

@@ -9,10 +9,10 @@ pub record Usual (g : Geometry) : Type 0 where
   pub ll : g.settings.ll ≡ 2
   pub sb : g.settings.sb ≡ 8
 
-unfoldable pub usualShape : Geometry → Bool
-usualShape g = g.l == 1024 && (g.settings.ll == 2 && g.settings.sb == 8)
+unfoldable pub usual_shape : Geometry → Bool
+usual_shape g = g.l == 1024 && (g.settings.ll == 2 && g.settings.sb == 8)
 
 -- the default settings, with slots enough for a whole slice and no more than 5 allows
-unfoldable pub usualSettings : Settings → Bool
-usualSettings s =
+unfoldable pub usual_settings : Settings → Bool
+usual_settings s =
     (s.log2_slice_len == 10) && (s.ll == 2 && (s.sb == 8 && (nat_le 1024 s.m && nat_le s.m 134217728)))

@@ -1,7 +1,7 @@
 // How many buckets: k keys over a bucket size, rounded half up and made odd.
 ghost use Rattle.std.specs.Prelude.{◌≡◌, ◌<◌, ◌≤◌, max};
-ghost use Rattle.rules.specs.BucketCount.{sizeCap, halfUp, oddUp};
-ghost use Rattle.rules.specs.Answers.{saidCounted, countAnswer};
+ghost use Rattle.rules.specs.BucketCount.{size_cap, half_up, odd_up};
+ghost use Rattle.rules.specs.Answers.{said_counted, count_answer};
 ghost use Rattle.geometry.specs.Small.{Small};
 
 use integers::choice::smaller;
@@ -11,7 +11,7 @@ use rules::Counted;
 // The largest bucket size.
 fn size_cap(log2_slice_len: u64) -> u64
     requires { log2_slice_len ≤ 16 }
-    ensures { (result ≡ sizeCap log2_slice_len) × (result ≤ 64) }
+    ensures { (result ≡ size_cap log2_slice_len) × (result ≤ 64) }
 {
     smaller(power_of_two(log2_slice_len) / 8, 64)
 }
@@ -19,7 +19,7 @@ fn size_cap(log2_slice_len: u64) -> u64
 // q to the nearest whole number, halves upward.
 fn rounded(q: f64) -> u64
     requires { Small q }
-    ensures { (result ≡ halfUp q) × (result ≤ 67108865) }
+    ensures { (result ≡ half_up q) × (result ≤ 67108865) }
 {
     let t = std::num::truncating_f64_to_u64(q);
     if q < (t as f64) + 0.5 { t } else { t + 1 }
@@ -28,14 +28,14 @@ fn rounded(q: f64) -> u64
 // At least 1, and odd.
 fn odd_up(n: u64) -> u64
     requires { n ≤ 67108865 }
-    ensures { result ≡ oddUp (max 1 n) }
+    ensures { result ≡ odd_up (max 1 n) }
 {
     if n == 0 { 1 } else { n + (1 - n % 2) }
 }
 
 // The number of buckets for k keys at a bucket size.
 pub fn bucket_count(log2_slice_len: u64, k: u64, size: f64) -> Counted
-    ensures { saidCounted result ≡ countAnswer log2_slice_len k size }
+    ensures { said_counted result ≡ count_answer log2_slice_len k size }
 {
     if log2_slice_len < 3 {
         return Counted::Refused(3);

@@ -9,7 +9,7 @@ use integers::product::{mul_hi, mul_lo};
 // The bucket of h.
 pub fn bucket_of(g: Geometry, h: u64) -> u64
     requires { Made g }
-    ensures { (result ≡ G.bucketOf g.settings h) × (result < g.settings.buckets) }
+    ensures { (result ≡ G.bucket_of g.settings h) × (result < g.settings.buckets) }
 {
     let s = g.settings;
     mul_hi(h, s.buckets)
@@ -18,7 +18,7 @@ pub fn bucket_of(g: Geometry, h: u64) -> u64
 // The slice of h.
 pub fn slice_of(g: Geometry, h: u64) -> u64
     requires { Made g }
-    ensures { (result ≡ G.sliceOf g.settings h) × (result < g.slices) }
+    ensures { (result ≡ G.slice_of g.settings h) × (result < g.slices) }
 {
     mul_hi(h, g.slices)
 }

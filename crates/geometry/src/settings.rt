@@ -1,9 +1,9 @@
 // The numbers 1 to 7 that refuse settings.
 ghost use Rattle.std.specs.Prelude.{◌≡◌, ◌<◌, ◌≤◌};
-ghost use Rattle.rules.specs.Geometry.{sliceLen, logLen, slices, perBucket};
+ghost use Rattle.rules.specs.Geometry.{slice_len, log_len, slices, per_bucket};
 ghost use Rattle.rules.specs.Good.{Usable};
-ghost use Rattle.rules.specs.Numbers.{first_of, linesTo6, linesTo7};
-ghost use Rattle.rules.specs.Answers.{saidChecked, settingsAnswer};
+ghost use Rattle.rules.specs.Numbers.{first_of, lines_to6, lines_to7};
+ghost use Rattle.rules.specs.Answers.{said_checked, settings_answer};
 
 use integers::choice::smaller;
 use integers::power::{log2_up, power_of_two};
@@ -11,7 +11,7 @@ use rules::{Checked, Settings};
 
 // The first of the numbers 1 to 6 that refuses the settings, or 0.
 pub fn number_to_6(s: Settings) -> u64
-    ensures { (result ≡ first_of (linesTo6 s)) × (result ≤ 6) }
+    ensures { (result ≡ first_of (lines_to6 s)) × (result ≤ 6) }
 {
     let m = s.m;
     let log2_slice_len = s.log2_slice_len;
@@ -57,7 +57,7 @@ pub fn number_to_6(s: Settings) -> u64
 // log2 of the slice length l.
 pub fn log2_len(s: Settings) -> u64
     requires { Usable s }
-    ensures { (result ≡ logLen s) × (result ≤ 16) }
+    ensures { (result ≡ log_len s) × (result ≤ 16) }
 {
     smaller(log2_up(s.m / 2 + 1), s.log2_slice_len)
 }
@@ -65,7 +65,7 @@ pub fn log2_len(s: Settings) -> u64
 // The slice length l.
 pub fn slice_len(s: Settings) -> u64
     requires { Usable s }
-    ensures { (result ≡ sliceLen s) × (1 ≤ result) × (result ≤ s.m) × (result ≤ 65536) }
+    ensures { (result ≡ slice_len s) × (1 ≤ result) × (result ≤ s.m) × (result ≤ 65536) }
 {
     power_of_two(log2_len(s))
 }
@@ -81,7 +81,7 @@ pub fn slice_count(s: Settings) -> u64
 // p: the number of slices over that of the buckets, rounded up.
 pub fn per_bucket(s: Settings) -> u64
     requires { Usable s }
-    ensures { (result ≡ perBucket s) × (result < 268435456) }
+    ensures { (result ≡ per_bucket s) × (result < 268435456) }
 {
     let b = s.buckets;
     (slice_count(s) + (b - 1)) / b
@@ -89,7 +89,7 @@ pub fn per_bucket(s: Settings) -> u64
 
 // The first of the numbers 1 to 7 that refuses the settings, or 0.
 pub fn number_to_7(s: Settings) -> u64
-    ensures { (result ≡ first_of (linesTo7 s)) × (result ≤ 7) }
+    ensures { (result ≡ first_of (lines_to7 s)) × (result ≤ 7) }
 {
     let n = number_to_6(s);
     if n != 0 {
@@ -103,7 +103,7 @@ pub fn number_to_7(s: Settings) -> u64
 
 // Whether a sweep takes the settings, and else the first number that refuses them.
 pub fn check_settings(s: Settings) -> Checked
-    ensures { saidChecked result ≡ settingsAnswer s }
+    ensures { said_checked result ≡ settings_answer s }
 {
     let n = number_to_7(s);
     if n == 0 {

@@ -1,9 +1,9 @@
 // What follows from settings.
 ghost use Rattle.std.specs.Prelude.{◌≡◌, ◌+◌, ◌*◌, ◌/◌, ◌^◌, ◌<◌, ◌≤◌, min, max};
-ghost use Rattle.integers.specs.Power.{leastPower};
-ghost use Rattle.rules.specs.Geometry.{workWords};
+ghost use Rattle.integers.specs.Power.{least_power};
+ghost use Rattle.rules.specs.Geometry.{work_words};
 ghost use Rattle.rules.specs.Good.{Usable};
-ghost use Rattle.geometry.specs.Shape.{geometryOf, Made};
+ghost use Rattle.geometry.specs.Shape.{geometry_of, Made};
 
 use super::settings::{log2_len, per_bucket, slice_count, slice_len};
 use integers::choice::{larger, less, smaller};
@@ -60,7 +60,7 @@ fn stride_of(ll: u64, scale: u64, log2_l: u64) -> u64
 // The ring slots, from l, p and 2^t.
 fn slots_of(l: u64, p: u64, span: u64) -> u64
     requires { (l ≤ 65536) × (p < 268435456) × (span ≤ 65536) }
-    ensures { (result ≡ leastPower (4 * (l + 1) + 512 * p + 64 * span)) × (result < 2 ^ 40) }
+    ensures { (result ≡ least_power (4 * (l + 1) + 512 * p + 64 * span)) × (result < 2 ^ 40) }
 {
     next_power_of_two(4 * (l + 1) + 512 * p + 64 * span)
 }
@@ -68,7 +68,7 @@ fn slots_of(l: u64, p: u64, span: u64) -> u64
 // The geometry of settings that 1 to 6 do not refuse.
 pub fn geometry_of(s: Settings) -> Geometry
     requires { Usable s }
-    ensures { result ≡ geometryOf s }
+    ensures { result ≡ geometry_of s }
 {
     let ll = s.ll;
     let sb = s.sb;
@@ -115,7 +115,7 @@ fn words(slots: u64, z: u64, layouts: u64, ring: u64) -> u64
 pub fn work_words(g: Geometry, z: u64) -> u64
     requires made { Made g }
     requires z_bound { z ≤ 4096 }
-    ensures { (result ≡ workWords g.settings z) × (result < 2 ^ 36) }
+    ensures { (result ≡ work_words g.settings z) × (result < 2 ^ 36) }
 {
     words(g.slots, z, g.layouts, g.ring)
 }

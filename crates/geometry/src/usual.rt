@@ -1,14 +1,14 @@
 // PHastR's default shape, told by a few tests, and its numbers as literals for the compiler to fold.
 ghost use Rattle.std.specs.Prelude.{◌≡◌};
 ghost use Rattle.geometry.specs.Shape.{Made};
-ghost use Rattle.geometry.specs.Usual.{Usual, usualShape, usualSettings};
+ghost use Rattle.geometry.specs.Usual.{Usual, usual_shape, usual_settings};
 
 use super::shape::Geometry;
 use rules::Settings;
 
 // Whether a geometry has the default shape: three tests, and all other numbers follow.
 pub fn usual(g: Geometry) -> bool
-    ensures { result ≡ usualShape g }
+    ensures { result ≡ usual_shape g }
 {
     if g.l != 1024 {
         return false;
@@ -21,7 +21,7 @@ pub fn usual(g: Geometry) -> bool
 
 // Whether settings are the default ones: then 1 to 5 do not apply, and their geometry has the default shape.
 pub fn usual_settings(s: Settings) -> bool
-    ensures { result ≡ usualSettings s }
+    ensures { result ≡ usual_settings s }
 {
     if s.log2_slice_len != 10 {
         return false;

@@ -1,6 +1,6 @@
 // The groups: bucket b's keys are the hashes from begins[b] up to begins[b + 1].
 ghost use Rattle.std.specs.Prelude.{◌≡◌, ◌+◌, ◌-◌, ◌*◌, ◌^◌, ◌<◌, ◌≤◌, length, get_or, take, drop};
-ghost use Rattle.groups.specs.Groups.{beginOf, sizeIn, Grouped};
+ghost use Rattle.groups.specs.Groups.{begin_of, size_in, Grouped};
 
 fn wide(x: u32) -> usize
     ensures { (result ≡ x) × (result < 2 ^ 32) }
@@ -11,7 +11,7 @@ fn wide(x: u32) -> usize
 // Where bucket b's keys begin.
 pub fn begin_of(begins: &[u32], b: usize) -> usize
     requires { b < length begins.now }
-    ensures { (result ≡ beginOf begins.now b) × (result < 2 ^ 32) }
+    ensures { (result ≡ begin_of begins.now b) × (result < 2 ^ 32) }
 {
     wide(begins[b])
 }
@@ -19,7 +19,7 @@ pub fn begin_of(begins: &[u32], b: usize) -> usize
 // How many keys bucket b has.
 pub fn size_of(begins: &[u32], b: usize) -> usize
     requires { Grouped begins.now b }
-    ensures { (result ≡ sizeIn begins.now b) × (result < 2 ^ 32) }
+    ensures { (result ≡ size_in begins.now b) × (result < 2 ^ 32) }
 {
     begin_of(begins, b + 1) - begin_of(begins, b)
 }
@@ -27,8 +27,8 @@ pub fn size_of(begins: &[u32], b: usize) -> usize
 // The keys of bucket b.
 pub fn keys_of<'a>(hashes: &'a [u64], begins: &[u32], b: usize) -> &'a [u64]
     requires grouped { Grouped begins.now b }
-    requires b_in_bounds { beginOf begins.now (b + 1) ≤ length hashes.now }
-    ensures { result.now ≡ take (sizeIn begins.now b) (drop (beginOf begins.now b) hashes.now) }
+    requires b_in_bounds { begin_of begins.now (b + 1) ≤ length hashes.now }
+    ensures { result.now ≡ take (size_in begins.now b) (drop (begin_of begins.now b) hashes.now) }
 {
     let lo = begin_of(begins, b);
     let hi = begin_of(begins, b + 1);

@@ -11,7 +11,7 @@ use lib.ListN.{length, take, drop, set, length-set, length-append, take-append-d
 use lib.Seq.{take-suc-set, drop-set-lt, drop-drop, length-take-le}
 use lib.Bits.{bit_and}
 use lib.Count.{count_trailing_zeros}
-use Rattle.holes.proofs.SetBits.{setSlots, slots_next, slots-zero}
+use Rattle.holes.proofs.SetBits.{set_slots, slots_next, slots_zero}
 
 -- `all` is to be written; n elements of it are, `rest` is left, and the buffer, which was out₀, is out
 pub record Filling (all out₀ out : List ℕ) (n : ℕ) (rest : List ℕ) : Type 0 where
@@ -26,35 +26,35 @@ fill_start all out h = record { room = h; same = refl; within = omega arith; don
 
 module _ {all out₀ out rest : List ℕ} {n : ℕ} where
   -- n and what is left make the whole
-  pub fill-count : Filling all out₀ out n rest → n + length rest ≡ length all
-  fill-count f = sym (sym (ap length f.done) ∙ length-append (take n out) rest ∙ ap (λ (x : ℕ). x + length rest) (length-take-le n out f.within))
+  pub fill_count : Filling all out₀ out n rest → n + length rest ≡ length all
+  fill_count f = sym (sym (ap length f.done) ∙ length-append (take n out) rest ∙ ap (λ (x : ℕ). x + length rest) (length-take-le n out f.within))
 
   -- the same, told from the buffer as it is now
-  pub fill-restart : Filling all out₀ out n rest → Filling all out out n rest
-  fill-restart f = record { room = omega (arith, f.room, f.same); same = refl; within = f.within; done = f.done; kept = refl }
+  pub fill_restart : Filling all out₀ out n rest → Filling all out out n rest
+  fill_restart f = record { room = omega (arith, f.room, f.same); same = refl; within = f.within; done = f.done; kept = refl }
 
   -- where nothing is left, all is written
-  pub fill-all : Filling all out₀ out n rest → rest ≡ [] → n ≡ length all
-  fill-all f z = omega (arith, fill-count f, ap length z)
+  pub fill_all : Filling all out₀ out n rest → rest ≡ [] → n ≡ length all
+  fill_all f z = omega (arith, fill_count f, ap length z)
 
   pub fill_end : Filling all out₀ out n rest → rest ≡ [] → out ≡ all ++ drop (length all) out₀
   fill_end f z =
-      let e : n ≡ length all = fill-all f z in
+      let e : n ≡ length all = fill_all f z in
       let d : take n out ≡ all = sym (append-nil (take n out)) ∙ ap (λ (l : List ℕ). take n out ++ l) (sym z) ∙ f.done in
       sym (take-append-drop n out) ∙ ap₂ (λ (a b : List ℕ). a ++ b) d f.kept ∙ ap (λ (k : ℕ). all ++ drop k out₀) e
 
 module _ {all out₀ out rest : List ℕ} {n x : ℕ} where
-  pub fill-room : Filling all out₀ out n (x ∷ rest) → n < length out
-  fill-room f = omega (arith, fill-count f, f.room, f.same)
+  pub fill_room : Filling all out₀ out n (x ∷ rest) → n < length out
+  fill_room f = omega (arith, fill_count f, f.room, f.same)
 
   -- one element more
-  pub fill-put : Filling all out₀ out n (x ∷ rest) → Filling all out₀ (set out n x) (n + 1) rest
-  fill-put f = record {
+  pub fill_put : Filling all out₀ out n (x ∷ rest) → Filling all out₀ (set out n x) (n + 1) rest
+  fill_put f = record {
     room = f.room;
     same = length-set out n x ∙ f.same;
-    within = omega (arith, fill-room f, length-set out n x);
+    within = omega (arith, fill_room f, length-set out n x);
     done =
-        ap (λ (k : ℕ). take k (set out n x) ++ rest) (add-one n) ∙ ap (λ (l : List ℕ). l ++ rest) (take-suc-set out n x (fill-room f))
+        ap (λ (k : ℕ). take k (set out n x) ++ rest) (add-one n) ∙ ap (λ (l : List ℕ). l ++ rest) (take-suc-set out n x (fill_room f))
         ∙ append_assoc (take n out) (x ∷ []) rest ∙ f.done;
     kept =
         ap (λ (k : ℕ). drop k (set out n x)) (add-one n) ∙ drop-set-lt (suc n) out n x (omega arith)
@@ -62,8 +62,8 @@ module _ {all out₀ out rest : List ℕ} {n x : ℕ} where
   }
 
 -- two stretches of the writing, one after the other
-pub fill-chain : {all a b c r r' : List ℕ} {n n' : ℕ} → Filling all a b n r → Filling all b c n' r' → n ≤ n' → Filling all a c n' r'
-fill-chain {all} {a} {b} {c} {r} {r'} {n} {n'} f g h = record {
+pub fill_chain : {all a b c r r' : List ℕ} {n n' : ℕ} → Filling all a b n r → Filling all b c n' r' → n ≤ n' → Filling all a c n' r'
+fill_chain {all} {a} {b} {c} {r} {r'} {n} {n'} f g h = record {
   room = f.room;
   same = g.same ∙ f.same;
   within = g.within;
@@ -78,10 +78,10 @@ fill-chain {all} {a} {b} {c} {r} {r'} {n} {n'} f g h = record {
     later = rw e (sym (drop-drop (n' - n) n b) ∙ ap (drop (n' - n)) f.kept ∙ drop-drop (n' - n) n a)
 
 -- the set bits of a word are next: the lowest one is the next element
-pub fill-slots : {all out₀ out : List ℕ} {n : ℕ} (s free : ℕ) (r : List ℕ) → free < 2 ^ 64 → free ≢ 0 → Filling all out₀ out n (setSlots s 64 free ++ r)
-    → Filling all out₀ out n ((s + count_trailing_zeros 64 free) ∷ (setSlots s 64 (bit_and free (free - 1)) ++ r))
-fill-slots s free r h z f = rw (slots_next s 64 free h z) at f
+pub fill_slots : {all out₀ out : List ℕ} {n : ℕ} (s free : ℕ) (r : List ℕ) → free < 2 ^ 64 → free ≢ 0 → Filling all out₀ out n (set_slots s 64 free ++ r)
+    → Filling all out₀ out n ((s + count_trailing_zeros 64 free) ∷ (set_slots s 64 (bit_and free (free - 1)) ++ r))
+fill_slots s free r h z f = rw (slots_next s 64 free h z) at f
 
 -- a word with no set bit is done
-pub fill-word : {all out₀ out : List ℕ} {n : ℕ} (s free : ℕ) (r : List ℕ) → free ≡ 0 → Filling all out₀ out n (setSlots s 64 free ++ r) → Filling all out₀ out n r
-fill-word s free r z f = rw (z, slots-zero) at f
+pub fill_word : {all out₀ out : List ℕ} {n : ℕ} (s free : ℕ) (r : List ℕ) → free ≡ 0 → Filling all out₀ out n (set_slots s 64 free ++ r) → Filling all out₀ out n r
+fill_word s free r z f = rw (z, slots_zero) at f

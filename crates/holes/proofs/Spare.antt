@@ -9,25 +9,25 @@ use native.Mathlib.Omega.{arith}
 use lib.Dec.{eqb}
 use lib.ListN.{length}
 use Rattle.words.specs.Map.{slot}
-use Rattle.rules.specs.Lists.{countFrom, keep, filter}
-use Rattle.rules.specs.Holes.{unmarked, holesOf}
-use Rattle.rules.specs.Numbers.{holesLines}
-use Rattle.rules.specs.Answers.{holesAnswer, holesOut}
+use Rattle.rules.specs.Lists.{count_from, keep, filter}
+use Rattle.rules.specs.Holes.{unmarked, holes_of}
+use Rattle.rules.specs.Numbers.{holes_lines}
+use Rattle.rules.specs.Answers.{holes_answer, holes_out}
 
-filter-from : (p q : ℕ → Bool) (i n : ℕ) → ((x : ℕ) → i ≤ x → x < i + n → p x ≡ q x) → filter p (countFrom i n) ≡ filter q (countFrom i n)
-filter-from p q i zero h = refl
-filter-from p q i (suc n) h =
-    ap₂ (λ (t : Bool) (l : List ℕ). keep t i l) (h i (omega arith) (omega arith)) (filter-from p q (suc i) n (λ x a b. h x (omega arith) (omega arith)))
+filter_from : (p q : ℕ → Bool) (i n : ℕ) → ((x : ℕ) → i ≤ x → x < i + n → p x ≡ q x) → filter p (count_from i n) ≡ filter q (count_from i n)
+filter_from p q i zero h = refl
+filter_from p q i (suc n) h =
+    ap₂ (λ (t : Bool) (l : List ℕ). keep t i l) (h i (omega arith) (omega arith)) (filter_from p q (suc i) n (λ x a b. h x (omega arith) (omega arith)))
 
 module _ (m : ℕ) (ws vs : List ℕ) (same : (x : ℕ) → x < m → slot ws x ≡ slot vs x) where
-  pub spare-holes : holesOf m ws ≡ holesOf m vs
-  unfolding holesOf unmarked
-  spare-holes = filter-from (unmarked ws) (unmarked vs) 0 m (λ x a b. ap (λ (y : ℕ). not (eqb y 1)) (same x (omega arith)))
+  pub spare_holes : holes_of m ws ≡ holes_of m vs
+  unfolding holes_of unmarked
+  spare_holes = filter_from (unmarked ws) (unmarked vs) 0 m (λ x a b. ap (λ (y : ℕ). not (eqb y 1)) (same x (omega arith)))
 
-  pub spare-answer : (out : List ℕ) → length ws ≡ length vs → holesAnswer m ws out ≡ holesAnswer m vs out
-  unfolding holesAnswer holesLines
-  spare-answer out e = rw (spare-holes, e) refl
+  pub spare_answer : (out : List ℕ) → length ws ≡ length vs → holes_answer m ws out ≡ holes_answer m vs out
+  unfolding holes_answer holes_lines
+  spare_answer out e = rw (spare_holes, e) refl
 
-  pub spare-out : (out : List ℕ) → length ws ≡ length vs → holesOut m ws out ≡ holesOut m vs out
-  unfolding holesOut holesLines
-  spare-out out e = rw (spare-holes, e) refl
+  pub spare_out : (out : List ℕ) → length ws ≡ length vs → holes_out m ws out ≡ holes_out m vs out
+  unfolding holes_out holes_lines
+  spare_out out e = rw (spare_holes, e) refl

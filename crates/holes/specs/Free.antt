@@ -2,5 +2,5 @@
 use Rattle.std.specs.Prelude.{List, ℕ, ◌-◌, ◌*◌, ◌%◌, ◌^◌, min, get_or}
 
 -- the complement of word w, cut to the slots below m
-unfoldable pub freeWord : (m : ℕ) → (bitmap : List ℕ) → (w : ℕ) → ℕ
-freeWord m bitmap w = ((2 ^ 64 - 1) - get_or bitmap w 0) % 2 ^ min 64 (m - w * 64)
+unfoldable pub free_word : (m : ℕ) → (bitmap : List ℕ) → (w : ℕ) → ℕ
+free_word m bitmap w = ((2 ^ 64 - 1) - get_or bitmap w 0) % 2 ^ min 64 (m - w * 64)

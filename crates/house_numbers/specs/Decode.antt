@@ -7,20 +7,20 @@ use Rattle.house_numbers.specs.declared.Decoded.{Decoded}
 use Rattle.house_numbers.specs.declared.Decoded.TheVariants as Read
 
 -- no group yet
-abbrev pub noGroups : Part
-noGroups = record { value = 0; groups = 0 }
+abbrev pub no_groups : Part
+no_groups = record { value = 0; groups = 0 }
 
 -- the value with one group more: each group counts 128 times the one before
-unfoldable pub grownValue : Part → (byte : ℕ) → ℕ
-grownValue p byte = p.value + byte % 128 * 128 ^ p.groups
+unfoldable pub grown_value : Part → (byte : ℕ) → ℕ
+grown_value p byte = p.value + byte % 128 * 128 ^ p.groups
 
 -- a group that is not refused: the last where the top bit is not set
-unfoldable pub grownTo : (groups value byte : ℕ) → Grown
-grownTo groups value byte = cond (ltb byte 128) (Grow.Whole value) (Grow.More (record { value = value; groups = groups + 1 }))
+unfoldable pub grown_to : (groups value byte : ℕ) → Grown
+grown_to groups value byte = cond (ltb byte 128) (Grow.Whole value) (Grow.More (record { value = value; groups = groups + 1 }))
 
 -- one more byte. Refused: over ten groups, or over 64 bits
-unfoldable pub grownBy : Part → (byte : ℕ) → Grown
-grownBy p byte = cond (ltb 9 p.groups || leb (2 ^ 64) (grownValue p byte)) Grow.Refused (grownTo p.groups (grownValue p byte) byte)
+unfoldable pub grown_by : Part → (byte : ℕ) → Grown
+grown_by p byte = cond (ltb 9 p.groups || leb (2 ^ 64) (grown_value p byte)) Grow.Refused (grown_to p.groups (grown_value p byte) byte)
 
 -- what a grown part is, given the place after its last byte and what the bytes from there on make of a part that wants more
 unfoldable pub settled : Grown → (next : ℕ) → (Part → Decoded) → Decoded
@@ -29,10 +29,10 @@ settled (Grow.Whole v) next more = Read.Number v next
 settled Grow.Refused next more = Read.Refused
 
 -- what the bytes from a place on make of a part; refused where they end
-unfoldable pub decodedFrom : (at : ℕ) → List ℕ → Part → Decoded
-decodedFrom at [] p = Read.Refused
-decodedFrom at (b ∷ bs) p = settled (grownBy p b) (at + 1) (decodedFrom (at + 1) bs)
+unfoldable pub decoded_from : (at : ℕ) → List ℕ → Part → Decoded
+decoded_from at [] p = Read.Refused
+decoded_from at (b ∷ bs) p = settled (grown_by p b) (at + 1) (decoded_from (at + 1) bs)
 
 -- the number at a place
-unfoldable pub decodedAt : (bytes : List ℕ) → (at : ℕ) → Decoded
-decodedAt bytes at = decodedFrom at (drop at bytes) noGroups
+unfoldable pub decoded_at : (bytes : List ℕ) → (at : ℕ) → Decoded
+decoded_at bytes at = decoded_from at (drop at bytes) no_groups

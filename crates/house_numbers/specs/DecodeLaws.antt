@@ -8,14 +8,14 @@ use Rattle.house_numbers.specs.declared.Grown.{Grown}
 use Rattle.house_numbers.specs.declared.Grown.TheVariants as Grow
 use Rattle.house_numbers.specs.declared.Decoded.{Decoded}
 use Rattle.house_numbers.specs.declared.Decoded.TheVariants as Read
-use Rattle.house_numbers.specs.Decode.{noGroups, grownValue, grownTo, grownBy, settled, decodedFrom, decodedAt}
+use Rattle.house_numbers.specs.Decode.{no_groups, grown_value, grown_to, grown_by, settled, decoded_from, decoded_at}
 
 -- 128 is seven bits
-pub pow-groups : (g : ℕ) → 128 ^ g ≡ 2 ^ (7 * g)
-pow-groups zero = refl
-pow-groups (suc g) =
+pub pow_groups : (g : ℕ) → 128 ^ g ≡ 2 ^ (7 * g)
+pow_groups zero = refl
+pow_groups (suc g) =
     pow-suc 128 g
-    ∙ ap (λ (x : ℕ). x * 128) (pow-groups g)
+    ∙ ap (λ (x : ℕ). x * 128) (pow_groups g)
     ∙ sym (pow-add 2 (7 * g) 7)
     ∙ ap (λ (x : ℕ). 2 ^ x) (omega arith)
 
@@ -36,60 +36,60 @@ module _ (v g s : ℕ) (fits : v < 2 ^ 64) where
   shifted h = mod-eq_of_lt (omega (arith, room h))
 
 module _ (p : Part) (b : ℕ) where
-  pub grown-long : 9 < p.groups → Grow.Refused ≡ grownBy p b
-  unfolding grownBy
-  grown-long h = rw (lt-ltb 9 p.groups h) refl
+  pub grown_long : 9 < p.groups → Grow.Refused ≡ grown_by p b
+  unfolding grown_by
+  grown_long h = rw (lt-ltb 9 p.groups h) refl
 
-  pub grown-wide : p.groups ≤ 9 → 2 ^ 64 ≤ grownValue p b → Grow.Refused ≡ grownBy p b
-  unfolding grownBy
-  grown-wide g h = rw (le-ltb 9 p.groups g, le-leb (2 ^ 64) (grownValue p b) h) refl
+  pub grown_wide : p.groups ≤ 9 → 2 ^ 64 ≤ grown_value p b → Grow.Refused ≡ grown_by p b
+  unfolding grown_by
+  grown_wide g h = rw (le-ltb 9 p.groups g, le-leb (2 ^ 64) (grown_value p b) h) refl
 
-  pub grown-whole : p.groups ≤ 9 → grownValue p b < 2 ^ 64 → b < 128 → Grow.Whole (grownValue p b) ≡ grownBy p b
-  unfolding grownBy grownTo
-  grown-whole g h l = rw (le-ltb 9 p.groups g, lt-leb (2 ^ 64) (grownValue p b) h, lt-ltb b 128 l) refl
+  pub grown_whole : p.groups ≤ 9 → grown_value p b < 2 ^ 64 → b < 128 → Grow.Whole (grown_value p b) ≡ grown_by p b
+  unfolding grown_by grown_to
+  grown_whole g h l = rw (le-ltb 9 p.groups g, lt-leb (2 ^ 64) (grown_value p b) h, lt-ltb b 128 l) refl
 
-  pub grown-more : p.groups ≤ 9 → grownValue p b < 2 ^ 64 → 128 ≤ b → Grow.More (record { value = grownValue p b; groups = p.groups + 1 }) ≡ grownBy p b
-  unfolding grownBy grownTo
-  grown-more g h l = rw (le-ltb 9 p.groups g, lt-leb (2 ^ 64) (grownValue p b) h, le-ltb b 128 l) refl
+  pub grown_more : p.groups ≤ 9 → grown_value p b < 2 ^ 64 → 128 ≤ b → Grow.More (record { value = grown_value p b; groups = p.groups + 1 }) ≡ grown_by p b
+  unfolding grown_by grown_to
+  grown_more g h l = rw (le-ltb 9 p.groups g, lt-leb (2 ^ 64) (grown_value p b) h, le-ltb b 128 l) refl
 
 -- the number at a place, from the byte there
 module _ (bytes : List ℕ) (at : ℕ) (p : Part) where
-  pub from_end : length bytes ≤ at → decodedFrom at (drop at bytes) p ≡ Read.Refused
-  unfolding decodedFrom
+  pub from_end : length bytes ≤ at → decoded_from at (drop at bytes) p ≡ Read.Refused
+  unfolding decoded_from
   from_end h = rw (drop_of_length-le bytes h) refl
 
-  pub from_byte : at < length bytes → decodedFrom at (drop at bytes) p ≡ settled (grownBy p (get_or bytes at 0)) (at + 1) (decodedFrom (at + 1) (drop (at + 1) bytes))
-  unfolding decodedFrom
+  pub from_byte : at < length bytes → decoded_from at (drop at bytes) p ≡ settled (grown_by p (get_or bytes at 0)) (at + 1) (decoded_from (at + 1) (drop (at + 1) bytes))
+  unfolding decoded_from
   from_byte h = rw (drop-cons bytes at 0 h) (rw (add-one) refl)
 
-  module _ (inside : at < length bytes) (g : Grown) (e : g ≡ grownBy p (get_or bytes at 0)) where
-    from-grown : settled g (at + 1) (decodedFrom (at + 1) (drop (at + 1) bytes)) ≡ decodedFrom at (drop at bytes) p
-    from-grown = ap (λ (x : Grown). settled x (at + 1) (decodedFrom (at + 1) (drop (at + 1) bytes))) e ∙ sym (from_byte inside)
+  module _ (inside : at < length bytes) (g : Grown) (e : g ≡ grown_by p (get_or bytes at 0)) where
+    from_grown : settled g (at + 1) (decoded_from (at + 1) (drop (at + 1) bytes)) ≡ decoded_from at (drop at bytes) p
+    from_grown = ap (λ (x : Grown). settled x (at + 1) (decoded_from (at + 1) (drop (at + 1) bytes))) e ∙ sym (from_byte inside)
 
-    pub from_more : (q : Part) → g ≡ Grow.More q → decodedFrom (at + 1) (drop (at + 1) bytes) q ≡ decodedFrom at (drop at bytes) p
+    pub from_more : (q : Part) → g ≡ Grow.More q → decoded_from (at + 1) (drop (at + 1) bytes) q ≡ decoded_from at (drop at bytes) p
     unfolding settled
-    from_more q i = rw i at from-grown
+    from_more q i = rw i at from_grown
 
-    pub from-whole : (v : ℕ) → g ≡ Grow.Whole v → Read.Number v (at + 1) ≡ decodedFrom at (drop at bytes) p
+    pub from_whole : (v : ℕ) → g ≡ Grow.Whole v → Read.Number v (at + 1) ≡ decoded_from at (drop at bytes) p
     unfolding settled
-    from-whole v i = rw i at from-grown
+    from_whole v i = rw i at from_grown
 
-    pub from-refused : g ≡ Grow.Refused → Read.Refused ≡ decodedFrom at (drop at bytes) p
+    pub from_refused : g ≡ Grow.Refused → Read.Refused ≡ decoded_from at (drop at bytes) p
     unfolding settled
-    from-refused i = rw i at from-grown
+    from_refused i = rw i at from_grown
 
 -- `grow` as the code has it: the group shifted up by seven bits for each group before it
 module _ (p : Part) (b : ℕ) (fits : p.value < 2 ^ 64) where
-  value_shifted : grownValue p b ≡ p.value + b % 128 * 2 ^ (7 * p.groups)
-  unfolding grownValue
-  value_shifted = ap (λ (x : ℕ). p.value + b % 128 * x) (pow-groups p.groups)
+  value_shifted : grown_value p b ≡ p.value + b % 128 * 2 ^ (7 * p.groups)
+  unfolding grown_value
+  value_shifted = ap (λ (x : ℕ). p.value + b % 128 * x) (pow_groups p.groups)
 
-  pub value-wide : (2 ^ 64 - 1 - p.value) / 2 ^ (7 * p.groups) < b % 128 → 2 ^ 64 ≤ grownValue p b
-  value-wide h = rw value_shifted (no_room p.value (b % 128) (7 * p.groups) fits h)
+  pub value_wide : (2 ^ 64 - 1 - p.value) / 2 ^ (7 * p.groups) < b % 128 → 2 ^ 64 ≤ grown_value p b
+  value_wide h = rw value_shifted (no_room p.value (b % 128) (7 * p.groups) fits h)
 
   module _ (h : b % 128 ≤ (2 ^ 64 - 1 - p.value) / 2 ^ (7 * p.groups)) where
-    pub value-fits : grownValue p b < 2 ^ 64
-    value-fits = rw value_shifted (room p.value (b % 128) (7 * p.groups) fits h)
+    pub value_fits : grown_value p b < 2 ^ 64
+    value_fits = rw value_shifted (room p.value (b % 128) (7 * p.groups) fits h)
 
-    pub value-is : p.value + (b % 128 * 2 ^ (7 * p.groups)) % 2 ^ 64 ≡ grownValue p b
-    value-is = ap (λ (x : ℕ). p.value + x) (shifted p.value (b % 128) (7 * p.groups) fits h) ∙ sym value_shifted
+    pub value_is : p.value + (b % 128 * 2 ^ (7 * p.groups)) % 2 ^ 64 ≡ grown_value p b
+    value_is = ap (λ (x : ℕ). p.value + x) (shifted p.value (b % 128) (7 * p.groups) fits h) ∙ sym value_shifted

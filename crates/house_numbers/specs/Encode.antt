@@ -5,22 +5,22 @@ use Rattle.house_numbers.specs.declared.Encoded.{Encoded}
 use Rattle.house_numbers.specs.declared.Encoded.TheVariants.{Next, NoRoom}
 
 -- the groups of v: as many as it takes, and at most one more than the first number says
-unfoldable pub groupsIn : ℕ → (v : ℕ) → List ℕ
-groupsIn zero v = v ∷ []
-groupsIn (suc f) v = cond (ltb v 128) (v ∷ []) ((128 + v % 128) ∷ groupsIn f (v / 128))
+unfoldable pub groups_in : ℕ → (v : ℕ) → List ℕ
+groups_in zero v = v ∷ []
+groups_in (suc f) v = cond (ltb v 128) (v ∷ []) ((128 + v % 128) ∷ groups_in f (v / 128))
 
 -- the bytes of v, which has at most ten groups where it is below 2^64
 unfoldable pub encoded : (v : ℕ) → List ℕ
-encoded v = groupsIn 9 v
+encoded v = groups_in 9 v
 
 -- whether there is room for the bytes of v at a place in so many bytes
-unfoldable pub hasRoom : (v size at : ℕ) → Bool
-hasRoom v size at = leb (at + length (encoded v)) size
+unfoldable pub has_room : (v size at : ℕ) → Bool
+has_room v size at = leb (at + length (encoded v)) size
 
 -- the place after them
-unfoldable pub encodedNext : (v size at : ℕ) → Encoded
-encodedNext v size at = cond (hasRoom v size at) (Next (at + length (encoded v))) NoRoom
+unfoldable pub encoded_next : (v size at : ℕ) → Encoded
+encoded_next v size at = cond (has_room v size at) (Next (at + length (encoded v))) NoRoom
 
 -- the bytes afterwards: those of v at the place if they have room, and the others as they were
-unfoldable pub encodedOut : (v : ℕ) → (out : List ℕ) → (at : ℕ) → List ℕ
-encodedOut v out at = cond (hasRoom v (length out) at) (sets out at (encoded v)) out
+unfoldable pub encoded_out : (v : ℕ) → (out : List ℕ) → (at : ℕ) → List ℕ
+encoded_out v out at = cond (has_room v (length out) at) (sets out at (encoded v)) out

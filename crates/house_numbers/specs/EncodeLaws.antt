@@ -10,96 +10,96 @@ use Rattle.std.proofs.lemmas.List.Edits.{sets}
 use Rattle.std.proofs.lemmas.Bool.{lt-leb}
 use Rattle.house_numbers.specs.declared.Encoded.{Encoded}
 use Rattle.house_numbers.specs.declared.Encoded.TheVariants.{Next, NoRoom}
-use Rattle.house_numbers.specs.Encode.{groupsIn, encoded, hasRoom, encodedNext, encodedOut}
+use Rattle.house_numbers.specs.Encode.{groups_in, encoded, has_room, encoded_next, encoded_out}
 
-groups-small : (f v : ℕ) → v < 128 → groupsIn f v ≡ v ∷ []
-unfolding groupsIn
-groups-small zero v h = refl
-groups-small (suc f) v h = rw (lt-ltb v 128 h) refl
+groups_small : (f v : ℕ) → v < 128 → groups_in f v ≡ v ∷ []
+unfolding groups_in
+groups_small zero v h = refl
+groups_small (suc f) v h = rw (lt-ltb v 128 h) refl
 
-groups-last : (v : ℕ) → groupsIn 0 v ≡ v ∷ []
-unfolding groupsIn
-groups-last v = refl
+groups_last : (v : ℕ) → groups_in 0 v ≡ v ∷ []
+unfolding groups_in
+groups_last v = refl
 
-groups-large : (f v : ℕ) → 128 ≤ v → groupsIn (suc f) v ≡ (128 + v % 128) ∷ groupsIn f (v / 128)
-unfolding groupsIn
-groups-large f v h = rw (le-ltb v 128 h) refl
+groups_large : (f v : ℕ) → 128 ≤ v → groups_in (suc f) v ≡ (128 + v % 128) ∷ groups_in f (v / 128)
+unfolding groups_in
+groups_large f v h = rw (le-ltb v 128 h) refl
 
 -- v / 128 has one group less
 less : (f v : ℕ) → v < 128 ^ suc (suc f) → v / 128 < 128 ^ suc f
 less f v h = (div-lt_iff_lt-mul {x = v} {y = 128 ^ suc f} (lit< tt)).1 (rw (pow-suc 128 (suc f)) at h)
 
-groups-enough : (f g v : ℕ) → v < 128 ^ suc f → v < 128 ^ suc g → groupsIn f v ≡ groupsIn g v
-groups-enough zero g v hf hg = groups-small 0 v hf ∙ sym (groups-small g v hf)
-groups-enough (suc f) zero v hf hg = groups-small (suc f) v hg ∙ sym (groups-small 0 v hg)
-groups-enough (suc f) (suc g) v hf hg =
+groups_enough : (f g v : ℕ) → v < 128 ^ suc f → v < 128 ^ suc g → groups_in f v ≡ groups_in g v
+groups_enough zero g v hf hg = groups_small 0 v hf ∙ sym (groups_small g v hf)
+groups_enough (suc f) zero v hf hg = groups_small (suc f) v hg ∙ sym (groups_small 0 v hg)
+groups_enough (suc f) (suc g) v hf hg =
     by_cases (dec_lt v 128)
-    (λ (h : v < 128). groups-small (suc f) v h ∙ sym (groups-small (suc g) v h))
+    (λ (h : v < 128). groups_small (suc f) v h ∙ sym (groups_small (suc g) v h))
     (λ (h : v < 128 → ⊥).
-    groups-large f v (omega arith)
-    ∙ ap (λ (r : List ℕ). (128 + v % 128) ∷ r) (groups-enough f g (v / 128) (less f v hf) (less g v hg))
-    ∙ sym (groups-large g v (omega arith)))
+    groups_large f v (omega arith)
+    ∙ ap (λ (r : List ℕ). (128 + v % 128) ∷ r) (groups_enough f g (v / 128) (less f v hf) (less g v hg))
+    ∙ sym (groups_large g v (omega arith)))
 
-groups-most : (f v : ℕ) → length (groupsIn f v) ≤ suc f
-groups-most zero v = omega (arith, ap length (groups-last v))
-groups-most (suc f) v =
+groups_most : (f v : ℕ) → length (groups_in f v) ≤ suc f
+groups_most zero v = omega (arith, ap length (groups_last v))
+groups_most (suc f) v =
     by_cases (dec_lt v 128)
-    (λ (h : v < 128). omega (arith, ap length (groups-small (suc f) v h)))
-    (λ (h : v < 128 → ⊥). omega (arith, ap length (groups-large f v (omega arith)), groups-most f (v / 128)))
+    (λ (h : v < 128). omega (arith, ap length (groups_small (suc f) v h)))
+    (λ (h : v < 128 → ⊥). omega (arith, ap length (groups_large f v (omega arith)), groups_most f (v / 128)))
 
-pub encoded-small : (v : ℕ) → v < 128 → encoded v ≡ v ∷ []
+pub encoded_small : (v : ℕ) → v < 128 → encoded v ≡ v ∷ []
 unfolding encoded
-encoded-small v h = groups-small 9 v h
+encoded_small v h = groups_small 9 v h
 
-pub encoded-large : (v : ℕ) → v < 2 ^ 64 → 128 ≤ v → encoded v ≡ (128 + v % 128) ∷ encoded (v / 128)
+pub encoded_large : (v : ℕ) → v < 2 ^ 64 → 128 ≤ v → encoded v ≡ (128 + v % 128) ∷ encoded (v / 128)
 unfolding encoded
-encoded-large v fits h =
-    groups-large 8 v h
-    ∙ ap (λ (r : List ℕ). (128 + v % 128) ∷ r) (groups-enough 8 9 (v / 128) (omega arith) (omega arith))
+encoded_large v fits h =
+    groups_large 8 v h
+    ∙ ap (λ (r : List ℕ). (128 + v % 128) ∷ r) (groups_enough 8 9 (v / 128) (omega arith) (omega arith))
 
-pub length-small : (v : ℕ) → v < 128 → length (encoded v) ≡ 1
-length-small v h = ap length (encoded-small v h)
+pub length_small : (v : ℕ) → v < 128 → length (encoded v) ≡ 1
+length_small v h = ap length (encoded_small v h)
 
-pub length-large : (v : ℕ) → v < 2 ^ 64 → 128 ≤ v → length (encoded v) ≡ suc (length (encoded (v / 128)))
-length-large v fits h = ap length (encoded-large v fits h)
+pub length_large : (v : ℕ) → v < 2 ^ 64 → 128 ≤ v → length (encoded v) ≡ suc (length (encoded (v / 128)))
+length_large v fits h = ap length (encoded_large v fits h)
 
 -- there is at least one group, and there are at most ten
-pub length-pos : (v : ℕ) → 1 ≤ length (encoded v)
+pub length_pos : (v : ℕ) → 1 ≤ length (encoded v)
 unfolding encoded
-length-pos v =
+length_pos v =
     by_cases (dec_lt v 128)
-    (λ (h : v < 128). omega (arith, ap length (groups-small 9 v h)))
-    (λ (h : v < 128 → ⊥). omega (arith, ap length (groups-large 8 v (omega arith))))
+    (λ (h : v < 128). omega (arith, ap length (groups_small 9 v h)))
+    (λ (h : v < 128 → ⊥). omega (arith, ap length (groups_large 8 v (omega arith))))
 
-pub length-ten : (v : ℕ) → length (encoded v) ≤ 10
+pub length_ten : (v : ℕ) → length (encoded v) ≤ 10
 unfolding encoded
-length-ten v = groups-most 9 v
+length_ten v = groups_most 9 v
 
 -- ---- the bytes written one after the other
 
-pub sets-small : (out : List ℕ) (at v : ℕ) → v < 128 → set out at v ≡ sets out at (encoded v)
-sets-small out at v h = sym (ap (sets out at) (encoded-small v h))
+pub sets_small : (out : List ℕ) (at v : ℕ) → v < 128 → set out at v ≡ sets out at (encoded v)
+sets_small out at v h = sym (ap (sets out at) (encoded_small v h))
 
-pub sets-large : (out : List ℕ) (at v : ℕ) → v < 2 ^ 64 → 128 ≤ v → sets (set out at (128 + v % 128)) (at + 1) (encoded (v / 128)) ≡ sets out at (encoded v)
-sets-large out at v fits h = rw add-one (sym (ap (sets out at) (encoded-large v fits h)))
+pub sets_large : (out : List ℕ) (at v : ℕ) → v < 2 ^ 64 → 128 ≤ v → sets (set out at (128 + v % 128)) (at + 1) (encoded (v / 128)) ≡ sets out at (encoded v)
+sets_large out at v fits h = rw add-one (sym (ap (sets out at) (encoded_large v fits h)))
 
 -- ---- the answer and the bytes afterwards, with room and without
 
 module _ (v : ℕ) (out : List ℕ) (at : ℕ) where
   module _ (h : length out < at + length (encoded v)) where
-    pub next-none : NoRoom ≡ encodedNext v (length out) at
-    unfolding encodedNext hasRoom
-    next-none = rw (lt-leb (at + length (encoded v)) (length out) h) refl
+    pub next_none : NoRoom ≡ encoded_next v (length out) at
+    unfolding encoded_next has_room
+    next_none = rw (lt-leb (at + length (encoded v)) (length out) h) refl
 
-    pub out-kept : out ≡ encodedOut v out at
-    unfolding encodedOut hasRoom
-    out-kept = rw (lt-leb (at + length (encoded v)) (length out) h) refl
+    pub out_kept : out ≡ encoded_out v out at
+    unfolding encoded_out has_room
+    out_kept = rw (lt-leb (at + length (encoded v)) (length out) h) refl
 
   module _ (h : at + length (encoded v) ≤ length out) where
-    pub next-after : Next (at + length (encoded v)) ≡ encodedNext v (length out) at
-    unfolding encodedNext hasRoom
-    next-after = rw (le-leb (at + length (encoded v)) (length out) h) refl
+    pub next_after : Next (at + length (encoded v)) ≡ encoded_next v (length out) at
+    unfolding encoded_next has_room
+    next_after = rw (le-leb (at + length (encoded v)) (length out) h) refl
 
-    pub out-set : sets out at (encoded v) ≡ encodedOut v out at
-    unfolding encodedOut hasRoom
-    out-set = rw (le-leb (at + length (encoded v)) (length out) h) refl
+    pub out_set : sets out at (encoded v) ≡ encoded_out v out at
+    unfolding encoded_out has_room
+    out_set = rw (le-leb (at + length (encoded v)) (length out) h) refl

@@ -1,8 +1,8 @@
 // House numbers: groups of seven bits, low group first, the top bit of a byte set while more follow.
 ghost use Rattle.std.specs.Prelude.{◌≡◌, ◌+◌, ◌≤◌, length};
 ghost use Rattle.std.proofs.lemmas.List.Edits.{sets};
-ghost use Rattle.house_numbers.specs.Encode.{encoded, encodedNext, encodedOut};
-ghost use Rattle.house_numbers.specs.Decode.{grownBy, decodedAt};
+ghost use Rattle.house_numbers.specs.Encode.{encoded, encoded_next, encoded_out};
+ghost use Rattle.house_numbers.specs.Decode.{grown_by, decoded_at};
 
 // A number that is being read: the value of its groups so far, and how many they are.
 #[derive(Drop)]
@@ -35,7 +35,7 @@ pub enum Encoded {
 
 // Takes one more byte to a part. Refused: an eleventh group, or a value of over 64 bits.
 pub fn grow(part: Part, byte: u8) -> Grown
-    ensures { result ≡ grownBy part byte }
+    ensures { result ≡ grown_by part byte }
 {
     let value = part.value;
     let groups = part.groups;
@@ -60,7 +60,7 @@ pub fn grow(part: Part, byte: u8) -> Grown
 
 // Reads the number at a place. Refused: the bytes end within it, or `grow` refuses it.
 pub fn decode(bytes: &[u8], at: usize) -> Decoded
-    ensures { result ≡ decodedAt bytes.now at }
+    ensures { result ≡ decoded_at bytes.now at }
 {
     let mut part = Part {
         value: 0,
@@ -89,8 +89,8 @@ pub fn decode(bytes: &[u8], at: usize) -> Decoded
 
 // Writes a number at a place, if there is room for all of it.
 pub fn encode(value: u64, out: &mut [u8], at: usize) -> Encoded
-    ensures answer { result ≡ encodedNext value (length out.old) at }
-    ensures buffer { out.new ≡ encodedOut value out.old at }
+    ensures answer { result ≡ encoded_next value (length out.old) at }
+    ensures buffer { out.new ≡ encoded_out value out.old at }
 {
     if at > out.len() {
         return Encoded::NoRoom;

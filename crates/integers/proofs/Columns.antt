@@ -7,8 +7,8 @@ use native.Mathlib.Omega.{arith}
 use lib.Arith.{digits_div, digits_mod}
 
 -- two digits and a carry
-pub column-le : (p x y z : ℕ) → x ≤ p → y ≤ p → z ≤ p → x * y + z ≤ p * p + p
-column-le p x y z hx hy hz = omega (arith, mul-le-mul hx hy)
+pub column_le : (p x y z : ℕ) → x ≤ p → y ≤ p → z ≤ p → x * y + z ≤ p * p + p
+column_le p x y z hx hy hz = omega (arith, mul-le-mul hx hy)
 
 -- the halves of the columns, put together
 joined : (P a0 a1 b0 b1 l0 h0 l1 h1 l2 h2 : ℕ) → h0 * P + l0 ≡ a0 * b0 → h1 * P + l1 ≡ a1 * b0 + h0 → h2 * P + l2 ≡ a0 * b1 + l1
@@ -31,5 +31,5 @@ module _ {a b a0 a1 b0 b1 l0 h0 l1 h1 l2 h2 : ℕ} (l : Ladder a b a0 a1 b0 b1 l
   pub high_is : a1 * b1 + h1 + h2 ≡ a * b / 2 ^ 64
   high_is = sym (ap (λ (x : ℕ). x / 2 ^ 64) whole ∙ digits_div (a1 * b1 + h1 + h2) l.small)
 
-  pub low-is : l2 * 2 ^ 32 + l0 ≡ a * b % 2 ^ 64
-  low-is = sym (ap (λ (x : ℕ). x % 2 ^ 64) whole ∙ digits_mod (a1 * b1 + h1 + h2) l.small)
+  pub low_is : l2 * 2 ^ 32 + l0 ≡ a * b % 2 ^ 64
+  low_is = sym (ap (λ (x : ℕ). x % 2 ^ 64) whole ∙ digits_mod (a1 * b1 + h1 + h2) l.small)

@@ -9,8 +9,8 @@ use Rattle.std.proofs.Math.Pow.{mod-mod-pow, field}
 
 -- ---- bounds
 
-pub div-bounds : (x n q : ℕ) → 0 < n → x / n ≡ q → (q * n ≤ x) × (x < q * n + n)
-div-bounds x n q h e =
+pub div_bounds : (x n q : ℕ) → 0 < n → x / n ≡ q → (q * n ≤ x) × (x < q * n + n)
+div_bounds x n q h e =
     let d : x / n * n + x % n ≡ x = div-add-mod' x n in
     (omega (arith, ap (λ (k : ℕ). k * n) e), omega (arith, ap (λ (k : ℕ). k * n) e, mod-lt x h))
 
@@ -20,18 +20,18 @@ div_mono {x} {y} n h le =
     (le-div_iff_mul-le {k = n} {x = x / n} {y = y} h).1 (omega arith)
 
 -- a quotient that is rounded up
-pub ceil-bounds : (x n q : ℕ) → 0 < n → (x + (n - 1)) / n ≡ q → (x ≤ q * n) × (q * n < x + n)
-ceil-bounds x n q h e = let b = div-bounds (x + (n - 1)) n q h e in (omega arith, omega arith)
+pub ceil_bounds : (x n q : ℕ) → 0 < n → (x + (n - 1)) / n ≡ q → (x ≤ q * n) × (q * n < x + n)
+ceil_bounds x n q h e = let b = div_bounds (x + (n - 1)) n q h e in (omega arith, omega arith)
 
 -- a part of c, such as h * c / 2 ^ 64
-pub part-lt : (x c n : ℕ) → x < n → 0 < c → x * c / n < c
-part-lt x c n h pos =
+pub part_lt : (x c n : ℕ) → x < n → 0 < c → x * c / n < c
+part_lt x c n h pos =
     let p : x * c < n * c = mul-lt-mul_of_pos_right h pos in
     (div-lt_iff_lt-mul {k = n} {x = x * c} {y = c} (omega arith)).1 (omega arith)
 
-pub part-le : (x c n : ℕ) → x < n → x * c / n ≤ c - 1
-part-le x zero n h = div-le_of_le-mul n {m = x * 0} {n = 0} (omega arith)
-part-le x (suc c) n h = omega (arith, part-lt x (suc c) n h (omega arith))
+pub part_le : (x c n : ℕ) → x < n → x * c / n ≤ c - 1
+part_le x zero n h = div-le_of_le-mul n {m = x * 0} {n = 0} (omega arith)
+part_le x (suc c) n h = omega (arith, part_lt x (suc c) n h (omega arith))
 
 -- ---- long division
 
@@ -54,19 +54,19 @@ two_digits r c n h = sym (carry (r * c) c n h) ∙ ap (λ (x : ℕ). x / n) (mul
 
 -- ---- sums of remainders, and numbers that lie close to each other
 
-pub mod-once : (n x : ℕ) → n ≤ x → x < n + n → x % n ≡ x - n
-mod-once n x h lt = mod-eq-sub-mod h ∙ mod-eq_of_lt (omega arith)
+pub mod_once : (n x : ℕ) → n ≤ x → x < n + n → x % n ≡ x - n
+mod_once n x h lt = mod-eq-sub-mod h ∙ mod-eq_of_lt (omega arith)
 
 pub mod_cases : (n x : ℕ) → x < n + n → ((x < n) × (x % n ≡ x)) ⊎ ((n ≤ x) × (x % n ≡ x - n))
 mod_cases n x h = by (dec_le n x)
   where
     by : Dec (n ≤ x) → ((x < n) × (x % n ≡ x)) ⊎ ((n ≤ x) × (x % n ≡ x - n))
-    by (yes p) = inr (p, mod-once n x p h)
+    by (yes p) = inr (p, mod_once n x p h)
     by (no p) = let l : x < n = omega arith in inl (l, mod-eq_of_lt l)
 
 -- equal remainders less than n apart are of equal numbers
-pub mod-apart : (n p q : ℕ) → p ≤ q → q < p + n → p % n ≡ q % n → p ≡ q
-mod-apart n p q le lt e =
+pub mod_apart : (n p q : ℕ) → p ≤ q → q < p + n → p % n ≡ q % n → p ≡ q
+mod_apart n p q le lt e =
     let dp : p / n * n + p % n ≡ p = div-add-mod' p n in
     let dq : q / n * n + q % n ≡ q = div-add-mod' q n in
     let up : q / n < p / n + 1 = lt_of_mul-lt-mul_right n {m = q / n} {n = p / n + 1} (omega arith) in
@@ -79,35 +79,35 @@ mod-apart n p q le lt e =
 
 -- ---- powers of two
 
-pub pow-split : (a b : ℕ) → b ≤ a → 2 ^ a ≡ 2 ^ (a - b) * 2 ^ b
-pow-split a b h = ap (λ (n : ℕ). 2 ^ n) (sym (sub-add_cancel {n = a} {m = b} h)) ∙ pow-add 2 (a - b) b
+pub pow_split : (a b : ℕ) → b ≤ a → 2 ^ a ≡ 2 ^ (a - b) * 2 ^ b
+pow_split a b h = ap (λ (n : ℕ). 2 ^ n) (sym (sub-add_cancel {n = a} {m = b} h)) ∙ pow-add 2 (a - b) b
 
-pub pow-div : (a b : ℕ) → b ≤ a → 2 ^ a / 2 ^ b ≡ 2 ^ (a - b)
-pow-div a b h = ap (λ (n : ℕ). n / 2 ^ b) (pow-split a b h) ∙ mul-div_cancel (2 ^ (a - b)) (pow_pos b)
+pub pow_div : (a b : ℕ) → b ≤ a → 2 ^ a / 2 ^ b ≡ 2 ^ (a - b)
+pow_div a b h = ap (λ (n : ℕ). n / 2 ^ b) (pow_split a b h) ∙ mul-div_cancel (2 ^ (a - b)) (pow_pos b)
 
 -- a shorter remainder of a longer one, and its upper digits
-pub mod-mod-le : (x a b : ℕ) → b ≤ a → x % 2 ^ a % 2 ^ b ≡ x % 2 ^ b
-mod-mod-le x a b h = ap (λ (n : ℕ). x % 2 ^ n % 2 ^ b) (sym (sub-add_cancel {n = a} {m = b} h)) ∙ mod-mod-pow x (a - b) b
+pub mod_mod_le : (x a b : ℕ) → b ≤ a → x % 2 ^ a % 2 ^ b ≡ x % 2 ^ b
+mod_mod_le x a b h = ap (λ (n : ℕ). x % 2 ^ n % 2 ^ b) (sym (sub-add_cancel {n = a} {m = b} h)) ∙ mod-mod-pow x (a - b) b
 
-pub mod-div-le : (x a b : ℕ) → b ≤ a → x % 2 ^ a / 2 ^ b ≡ x / 2 ^ b % 2 ^ (a - b)
-mod-div-le x a b h = ap (λ (n : ℕ). x % 2 ^ n / 2 ^ b) (sym (sub-add_cancel {n = a} {m = b} h)) ∙ field x (a - b) b
+pub mod_div_le : (x a b : ℕ) → b ≤ a → x % 2 ^ a / 2 ^ b ≡ x / 2 ^ b % 2 ^ (a - b)
+mod_div_le x a b h = ap (λ (n : ℕ). x % 2 ^ n / 2 ^ b) (sym (sub-add_cancel {n = a} {m = b} h)) ∙ field x (a - b) b
 
 -- ---- a ring of n rows with stride s: j turns move the row and keep the place within the stride
 
-pub ring-turn : (x j n s : ℕ) → 0 < n → 0 < s → (x + j * s) % (n * s) ≡ x % s + (x / s + j) % n * s
-ring-turn x j n s hn hs =
+pub ring_turn : (x j n s : ℕ) → 0 < n → 0 < s → (x + j * s) % (n * s) ≡ x % s + (x / s + j) % n * s
+ring_turn x j n s hn hs =
     mod-mul (x + j * s) {m = n} {c = s} hn hs
     ∙ ap₂ (λ (a b : ℕ). a % n * s + b) (add-mul-div_right x j {z = s} hs) (add-mul-mod_self_right x j s)
     ∙ add_comm ((x / s + j) % n * s) (x % s)
 
-short-turn : (k t x j : ℕ) → t ≤ k → (x + j * 2 ^ t) % 2 ^ k ≡ x % 2 ^ t + (x / 2 ^ t + j) % 2 ^ (k - t) * 2 ^ t
-short-turn k t x j h =
-    ap (λ (n : ℕ). (x + j * 2 ^ t) % n) (pow-split k t h) ∙ ring-turn x j (2 ^ (k - t)) (2 ^ t) (pow_pos (k - t)) (pow_pos t)
+short_turn : (k t x j : ℕ) → t ≤ k → (x + j * 2 ^ t) % 2 ^ k ≡ x % 2 ^ t + (x / 2 ^ t + j) % 2 ^ (k - t) * 2 ^ t
+short_turn k t x j h =
+    ap (λ (n : ℕ). (x + j * 2 ^ t) % n) (pow_split k t h) ∙ ring_turn x j (2 ^ (k - t)) (2 ^ t) (pow_pos (k - t)) (pow_pos t)
 
 -- a stride of the whole length or more turns nothing
-long-turn : (k e x j : ℕ) → k ≤ e → (x + j * 2 ^ e) % 2 ^ k ≡ x % 2 ^ k + (x / 2 ^ k + j) % 2 ^ (k - k) * 2 ^ k
-long-turn k e x j h =
-    ap (λ (n : ℕ). (x + j * n) % 2 ^ k) (pow-split e k h)
+long_turn : (k e x j : ℕ) → k ≤ e → (x + j * 2 ^ e) % 2 ^ k ≡ x % 2 ^ k + (x / 2 ^ k + j) % 2 ^ (k - k) * 2 ^ k
+long_turn k e x j h =
+    ap (λ (n : ℕ). (x + j * n) % 2 ^ k) (pow_split e k h)
     ∙ ap (λ (n : ℕ). (x + n) % 2 ^ k) (sym (mul_assoc j (2 ^ (e - k)) (2 ^ k)))
     ∙ add-mul-mod_self_right x (j * 2 ^ (e - k)) (2 ^ k)
     ∙ sym (ap (λ (n : ℕ). x % 2 ^ k + (x / 2 ^ k + j) % 2 ^ n * 2 ^ k) (sub_self k)
@@ -123,5 +123,5 @@ turn k e x j = by (dec_le e k)
     at t = (x + j * 2 ^ e) % 2 ^ k ≡ x % 2 ^ t + (x / 2 ^ t + j) % 2 ^ (k - t) * 2 ^ t
 
     by : Dec (e ≤ k) → at (min e k)
-    by (yes h) = subst at (sym (min-eq_left h)) (short-turn k e x j h)
-    by (no n) = let h : k ≤ e = omega arith in subst at (sym (min-eq_right h)) (long-turn k e x j h)
+    by (yes h) = subst at (sym (min-eq_left h)) (short_turn k e x j h)
+    by (no n) = let h : k ≤ e = omega arith in subst at (sym (min-eq_right h)) (long_turn k e x j h)

@@ -24,19 +24,19 @@ mask_below x l h = omega (arith, and_le_r x (l - 1))
 -- ---- sizes
 
 -- a number of s bits times one of t bits has at most s + t bits
-pub mul-lt-pow : {a b : ℕ} (s t : ℕ) → a < 2 ^ s → b < 2 ^ t → a * b < 2 ^ (s + t)
-mul-lt-pow {a} s t ha hb = lt_of_le_of_lt (mul-le-mul_left a (le_of_lt hb)) (shl_lt s t ha)
+pub mul_lt_pow : {a b : ℕ} (s t : ℕ) → a < 2 ^ s → b < 2 ^ t → a * b < 2 ^ (s + t)
+mul_lt_pow {a} s t ha hb = lt_of_le_of_lt (mul-le-mul_left a (le_of_lt hb)) (shl_lt s t ha)
 
 -- the product of two powers
-pub pow-mul-le : (a b s : ℕ) → a + b ≤ s → 2 ^ a * 2 ^ b ≤ 2 ^ s
-pow-mul-le a b s h = subst (λ (x : ℕ). x ≤ 2 ^ s) (pow-add 2 a b) (pow_mono h)
+pub pow_mul_le : (a b s : ℕ) → a + b ≤ s → 2 ^ a * 2 ^ b ≤ 2 ^ s
+pow_mul_le a b s h = subst (λ (x : ℕ). x ≤ 2 ^ s) (pow-add 2 a b) (pow_mono h)
 
 -- of two powers, the smaller has the smaller exponent
 pub pow_lt_cancel : {a b : ℕ} → 2 ^ a < 2 ^ b → a < b
 pow_lt_cancel h = lt_of_not-le (λ g. not-le_of_lt h (pow_mono g))
 
-pub pow-le-cancel : {a b : ℕ} → 2 ^ a ≤ 2 ^ b → a ≤ b
-pow-le-cancel {a} {b} h = at_most (λ g. not-le_of_lt (pow-lt g) h)
+pub pow_le_cancel : {a b : ℕ} → 2 ^ a ≤ 2 ^ b → a ≤ b
+pow_le_cancel {a} {b} h = at_most (λ g. not-le_of_lt (pow-lt g) h)
   where
     at_most : (b < a → ⊥) → a ≤ b
     at_most f = omega arith

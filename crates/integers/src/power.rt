@@ -1,12 +1,12 @@
 // Powers of two.
 ghost use Rattle.std.specs.Prelude.{◌≡◌, ◌+◌, ◌-◌, ◌*◌, ◌^◌, ◌≤◌};
-ghost use Rattle.integers.specs.Power.{logUp, leastPower};
+ghost use Rattle.integers.specs.Power.{log_up, least_power};
 
 use super::choice::less;
 
 // The least k with x <= 2^k.
 pub fn log2_up(x: u64) -> u64
-    ensures { (result ≡ logUp x) × (result ≤ 64) }
+    ensures { (result ≡ log_up x) × (result ≤ 64) }
 {
     (64 - u64::leading_zeros(less(x, 1))) as u64
 }
@@ -14,7 +14,7 @@ pub fn log2_up(x: u64) -> u64
 // The least power of two that is at least x.
 pub fn next_power_of_two(x: u64) -> u64
     requires { x ≤ 2 ^ 63 }
-    ensures { (result ≡ leastPower x) × (1 ≤ result) × (x ≤ result) × (result ≤ 2 * (x - 1) + 1) }
+    ensures { (result ≡ least_power x) × (1 ≤ result) × (x ≤ result) × (result ≤ 2 * (x - 1) + 1) }
 {
     1u64 << log2_up(x)
 }

@@ -1,4 +1,4 @@
--- What a check says fixes its answer: `saidMatched` can be undone, so two answers that say the same are the same. Assumes nothing.
+-- What a check says fixes its answer: `said_matched` can be undone, so two answers that say the same are the same. Assumes nothing.
 use mathlib.Core.Path.{◌≡◌, refl, sym, ap, ◌∙◌}
 use mathlib.Core.List.{List, [], ◌∷◌}
 use Prim.Native.Nat.{ℕ}
@@ -7,21 +7,21 @@ use Rattle.rules.specs.declared.Named.TheVariants.{Bucket, NoBucket}
 use Rattle.rules.specs.Answers.{Said, Answer, Refusal, named_by}
 use Rattle.level_check.specs.declared.Matched.{Matched}
 use Rattle.level_check.specs.declared.Matched.TheVariants.{Accepted, Refused}
-use Rattle.level_check.specs.Check.{saidMatched}
+use Rattle.level_check.specs.Check.{said_matched}
 
-namedBack : List ℕ → Named
-namedBack [] = NoBucket
-namedBack (b ∷ bs) = Bucket b
+named_back : List ℕ → Named
+named_back [] = NoBucket
+named_back (b ∷ bs) = Bucket b
 
-matchedBack : Said → Matched
-matchedBack (Answer xs) = Accepted
-matchedBack (Refusal n xs) = Refused n (namedBack xs)
+matched_back : Said → Matched
+matched_back (Answer xs) = Accepted
+matched_back (Refusal n xs) = Refused n (named_back xs)
 
-matched-back : (x : Matched) → matchedBack (saidMatched x) ≡ x
-unfolding saidMatched matchedBack named_by namedBack
-matched-back Accepted = refl
-matched-back (Refused n (Bucket b)) = refl
-matched-back (Refused n NoBucket) = refl
+matched_back_lem : (x : Matched) → matched_back (said_matched x) ≡ x
+unfolding said_matched matched_back named_by named_back
+matched_back_lem Accepted = refl
+matched_back_lem (Refused n (Bucket b)) = refl
+matched_back_lem (Refused n NoBucket) = refl
 
-pub said-matched : (x y : Matched) → saidMatched x ≡ saidMatched y → x ≡ y
-said-matched x y e = sym (matched-back x) ∙ ap matchedBack e ∙ matched-back y
+pub said_matched_lem : (x y : Matched) → said_matched x ≡ said_matched y → x ≡ y
+said_matched_lem x y e = sym (matched_back_lem x) ∙ ap matched_back e ∙ matched_back_lem y

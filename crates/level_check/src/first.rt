@@ -2,7 +2,7 @@
 ghost use Rattle.std.specs.Prelude.{◌≡◌, ◌≤◌};
 ghost use Rattle.rules.specs.Numbers.{first_of};
 ghost use Rattle.geometry.specs.Shape.{Made};
-ghost use Rattle.level_check.specs.Check.{levelOf, groupLines, lentBad, checkLines};
+ghost use Rattle.level_check.specs.Check.{level_of, group_lines, lent_bad, check_lines};
 
 use checks::{begins_bad, largest_size, strayed};
 use geometry::settings::number_to_7;
@@ -12,7 +12,7 @@ use rules::Settings;
 // The first of 9 to 11 that applies, or 0, the settings having passed.
 fn group_number(g: Geometry, hashes: &[u64], begins: &[u32]) -> u64
     requires { Made g }
-    ensures { result ≡ first_of (groupLines (levelOf g.settings hashes.now begins.now)) }
+    ensures { result ≡ first_of (group_lines (level_of g.settings hashes.now begins.now)) }
 {
     let s = g.settings;
     let buckets = s.buckets as usize;
@@ -31,7 +31,7 @@ fn group_number(g: Geometry, hashes: &[u64], begins: &[u32]) -> u64
 // Seeds, bitmap or scratch do not fit the settings.
 fn lent_bad(s: Settings, seeds: usize, bitmap: usize, scratch: usize) -> bool
     requires { s.m ≤ 134217728 }
-    ensures { result ≡ lentBad s seeds bitmap scratch }
+    ensures { result ≡ lent_bad s seeds bitmap scratch }
 {
     if seeds as u64 != s.buckets {
         return true;
@@ -52,7 +52,7 @@ pub fn first_number(
     bitmap: usize,
     scratch: usize,
 ) -> u64
-    ensures { result ≡ first_of (checkLines (levelOf settings hashes.now begins.now) seeds.now bitmap scratch) }
+    ensures { result ≡ first_of (check_lines (level_of settings hashes.now begins.now) seeds.now bitmap scratch) }
 {
     let n = number_to_7(settings);
     if n != 0 {

@@ -1,9 +1,9 @@
 // The check of a finished level: seeds and bitmap, held to the settings and the grouped hashes that they were made from.
 ghost use Rattle.std.specs.Prelude.{◌≡◌, length, replicate};
-ghost use Rattle.rules.specs.Numbers.{bitmapWords};
+ghost use Rattle.rules.specs.Numbers.{bitmap_words};
 ghost use Rattle.geometry.specs.Shape.{Made};
 ghost use Rattle.checks.specs.Homes.{Begun};
-ghost use Rattle.level_check.specs.Check.{levelOf, saidMatched, levelAnswer, checkAnswer, checkScratch};
+ghost use Rattle.level_check.specs.Check.{level_of, said_matched, level_answer, check_answer, check_scratch};
 
 mod first;
 mod maps;
@@ -36,8 +36,8 @@ fn judge(
 ) -> Matched
     requires made { Made g }
     requires begun { Begun begins.now (length seeds.now) (length hashes.now) }
-    requires seeds_len { (length seeds.now ≡ g.settings.buckets) × (length bitmap.now ≡ bitmapWords g.settings.m) × (length scratch.old ≡ bitmapWords g.settings.m) }
-    ensures answer { saidMatched result ≡ levelAnswer (levelOf g.settings hashes.now begins.now) seeds.now bitmap.now }
+    requires seeds_len { (length seeds.now ≡ g.settings.buckets) × (length bitmap.now ≡ bitmap_words g.settings.m) × (length scratch.old ≡ bitmap_words g.settings.m) }
+    ensures answer { said_matched result ≡ level_answer (level_of g.settings hashes.now begins.now) seeds.now bitmap.now }
     ensures scratch { scratch.new ≡ replicate (length scratch.old) 0 }
 {
     let s = g.settings;
@@ -67,8 +67,8 @@ pub fn check_level(
     bitmap: &[u64],
     scratch: &mut [u64],
 ) -> Matched
-    ensures answer { saidMatched result ≡ checkAnswer (levelOf settings hashes.now begins.now) seeds.now bitmap.now scratch.old }
-    ensures scratch { scratch.new ≡ checkScratch (levelOf settings hashes.now begins.now) seeds.now bitmap.now scratch.old }
+    ensures answer { said_matched result ≡ check_answer (level_of settings hashes.now begins.now) seeds.now bitmap.now scratch.old }
+    ensures scratch { scratch.new ≡ check_scratch (level_of settings hashes.now begins.now) seeds.now bitmap.now scratch.old }
 {
     let n = first_number(settings, hashes, begins, seeds, bitmap.len(), scratch.len());
     if n != 0 {

@@ -2,14 +2,14 @@
 ghost use Rattle.std.specs.Prelude.{◌≡◌, not, ℕ, length};
 ghost use Rattle.rules.specs.Lists.{below, every};
 ghost use Rattle.checks.specs.Homes.{Begun};
-ghost use Rattle.level_check.specs.Check.{seedFits};
-ghost use Rattle.level_check.specs.Walk.{seedAt};
+ghost use Rattle.level_check.specs.Check.{seed_fits};
+ghost use Rattle.level_check.specs.Walk.{seed_at};
 
 use groups::size_of;
 
 // A seed of the limit or more, or a nonzero one for an empty bucket.
 fn bad_seed(limit: u64, size: usize, seed: u16) -> bool
-    ensures { result ≡ not (seedFits limit size seed) }
+    ensures { result ≡ not (seed_fits limit size seed) }
 {
     if limit <= seed as u64 {
         return true;
@@ -23,7 +23,7 @@ fn bad_seed(limit: u64, size: usize, seed: u16) -> bool
 // One of the seeds is bad.
 pub fn seeds_bad(limit: u64, begins: &[u32], keys: usize, seeds: &[u16]) -> bool
     requires { Begun begins.now (length seeds.now) keys }
-    ensures { result ≡ not (every (seedAt limit begins.now seeds.now) (below (length seeds.now))) }
+    ensures { result ≡ not (every (seed_at limit begins.now seeds.now) (below (length seeds.now))) }
 {
     let mut b = 0;
     while b < seeds.len() {

@@ -1,10 +1,10 @@
 // Number 29: the keys' slots are marked in the scratch, bucket after bucket, until one is met again.
 ghost use Rattle.std.specs.Prelude.{◌≡◌, [], map, ◌*◌, ◌≤◌, length};
-ghost use Rattle.rules.specs.Sweep.{bitmapOf};
+ghost use Rattle.rules.specs.Sweep.{bitmap_of};
 ghost use Rattle.rules.specs.Geometry as G;
 ghost use Rattle.geometry.specs.Shape.{Made};
 ghost use Rattle.checks.specs.Homes.{Begun};
-ghost use Rattle.level_check.specs.Check.{levelOf};
+ghost use Rattle.level_check.specs.Check.{level_of};
 ghost use Rattle.level_check.specs.Walk.{slots_by, Met, Passed};
 
 use geometry::place::position;
@@ -50,8 +50,8 @@ pub fn mark_buckets(
 ) -> usize
     requires made { (Made g) × (g.settings.m ≤ 64 * length scratch.old) }
     requires begun { Begun begins.now (length seeds.now) (length hashes.now) }
-    requires scratch_value { scratch.old ≡ bitmapOf g.settings.m [] }
-    ensures { Passed (levelOf g.settings hashes.now begins.now) seeds.now scratch.new result }
+    requires scratch_value { scratch.old ≡ bitmap_of g.settings.m [] }
+    ensures { Passed (level_of g.settings hashes.now begins.now) seeds.now scratch.new result }
 {
     let mut b = 0;
     while b < seeds.len() {

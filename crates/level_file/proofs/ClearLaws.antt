@@ -23,8 +23,8 @@ module _ (before buffer : List ℕ) (i : ℕ) (z : Zeroed before buffer i) where
         same = length-set buffer i 0 ∙ z.same;
       }
 
-  pub zeroed-all : length buffer ≤ i → buffer ≡ replicate (length before) 0
-  zeroed-all h =
+  pub zeroed_all : length buffer ≤ i → buffer ≡ replicate (length before) 0
+  zeroed_all h =
       let end : i ≡ length before = omega (arith, z.same, z.inside) in
       let over : length before ≤ i = omega (arith, z.same) in
       z.is ∙ ap (λ (xs : List ℕ). replicate i 0 ++ xs) (drop_of_length-le before over) ∙ append-nil (replicate i 0) ∙ ap (λ (k : ℕ). replicate k 0) end

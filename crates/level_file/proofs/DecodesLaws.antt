@@ -11,59 +11,59 @@ use Rattle.rules.proofs.Tests.{is_false, and_left, and_right}
 use Rattle.house_numbers.specs.declared.Decoded.{Decoded}
 use Rattle.house_numbers.specs.declared.Decoded.TheVariants as Dec
 use Rattle.house_numbers.specs.Encode.{encoded}
-use Rattle.house_numbers.specs.Decode.{decodedAt}
-use Rattle.house_numbers.specs.RoundTrip.{decode-encoded}
-use Rattle.house_numbers.proofs.Inside.{number-inside}
+use Rattle.house_numbers.specs.Decode.{decoded_at}
+use Rattle.house_numbers.specs.RoundTrip.{decode_encoded}
+use Rattle.house_numbers.proofs.Inside.{number_inside}
 use Rattle.level_file.specs.declared.Taken.{Taken}
 use Rattle.level_file.specs.declared.Taken.TheVariants as Take
-use Rattle.level_file.specs.Taking.{taken_of, takenAt}
-use Rattle.level_file.specs.Format.{bytes_of, notBelow, allBut, Front, Decodes}
+use Rattle.level_file.specs.Taking.{taken_of, taken_at}
+use Rattle.level_file.specs.Format.{bytes_of, not_below, all_but, Front, Decodes}
 use Rattle.level_file.specs.Reading.{read_of, number_at}
 use Rattle.level_file.specs.Reading.Read.{Got}
 
 -- ---- one number, as decoded and as read
 
-of-taken : (d : Decoded) (v next : ℕ) → taken_of d ≡ Take.Number v next → d ≡ Dec.Number v next
+of_taken : (d : Decoded) (v next : ℕ) → taken_of d ≡ Take.Number v next → d ≡ Dec.Number v next
 unfolding taken_of
-of-taken (Dec.Number w n) v next e = cc
-of-taken Dec.Refused v next e = absurd (let z : ◌≡◌ {A = ℕ} 0 1 = cc in omega arith)
+of_taken (Dec.Number w n) v next e = cc
+of_taken Dec.Refused v next e = absurd (let z : ◌≡◌ {A = ℕ} 0 1 = cc in omega arith)
 
-of-read : (t : Taken) (v next : ℕ) → read_of t ≡ Got v next → t ≡ Take.Number v next
+of_read : (t : Taken) (v next : ℕ) → read_of t ≡ Got v next → t ≡ Take.Number v next
 unfolding read_of
-of-read (Take.Number w n) v next e = cc
-of-read (Take.Refused n) v next e = absurd (let z : ◌≡◌ {A = ℕ} 0 1 = cc in omega arith)
+of_read (Take.Number w n) v next e = cc
+of_read (Take.Refused n) v next e = absurd (let z : ◌≡◌ {A = ℕ} 0 1 = cc in omega arith)
 
 module _ (bytes : List ℕ) (at v next : ℕ) where
-  pub decoded-read : decodedAt bytes at ≡ Dec.Number v next → number_at bytes at ≡ Got v next
-  unfolding number_at read_of takenAt taken_of
-  decoded-read e = rw e refl
+  pub decoded_read : decoded_at bytes at ≡ Dec.Number v next → number_at bytes at ≡ Got v next
+  unfolding number_at read_of taken_at taken_of
+  decoded_read e = rw e refl
 
-  pub read-decoded : number_at bytes at ≡ Got v next → decodedAt bytes at ≡ Dec.Number v next
-  unfolding number_at takenAt
-  read-decoded e = of-taken (decodedAt bytes at) v next (of-read (takenAt bytes at) v next e)
+  pub read_decoded : number_at bytes at ≡ Got v next → decoded_at bytes at ≡ Dec.Number v next
+  unfolding number_at taken_at
+  read_decoded e = of_taken (decoded_at bytes at) v next (of_read (taken_at bytes at) v next e)
 
 module _ (bytes : List ℕ) where
-  pub decodes-none : (at : ℕ) → Decodes bytes [] at at
+  pub decodes_none : (at : ℕ) → Decodes bytes [] at at
   unfolding Decodes
-  decodes-none at = refl
+  decodes_none at = refl
 
-  pub decodes-more : (at next end v : ℕ) (vs : List ℕ) → number_at bytes at ≡ Got v next → Decodes bytes vs next end → Decodes bytes (v ∷ vs) at end
+  pub decodes_more : (at next end v : ℕ) (vs : List ℕ) → number_at bytes at ≡ Got v next → Decodes bytes vs next end → Decodes bytes (v ∷ vs) at end
   unfolding Decodes
-  decodes-more at next end v vs e d = record { next = next; number = read-decoded bytes at v next e; rest = d }
+  decodes_more at next end v vs e d = record { next = next; number = read_decoded bytes at v next e; rest = d }
 
   -- the first number, and the rest
-  pub decodes-first : (v : ℕ) (vs : List ℕ) (at end : ℕ) → Decodes bytes (v ∷ vs) at end → Front bytes at v (λ next. Decodes bytes vs next end)
+  pub decodes_first : (v : ℕ) (vs : List ℕ) (at end : ℕ) → Decodes bytes (v ∷ vs) at end → Front bytes at v (λ next. Decodes bytes vs next end)
   unfolding Decodes
-  decodes-first v vs at end d = d
+  decodes_first v vs at end d = d
 
-  pub decodes-end : (at end : ℕ) → Decodes bytes [] at end → at ≡ end
+  pub decodes_end : (at end : ℕ) → Decodes bytes [] at end → at ≡ end
   unfolding Decodes
-  decodes-end at end d = d
+  decodes_end at end d = d
 
-  pub decodes-both : (vs ws : List ℕ) (at mid end : ℕ) → Decodes bytes vs at mid → Decodes bytes ws mid end → Decodes bytes (vs ++ ws) at end
+  pub decodes_both : (vs ws : List ℕ) (at mid end : ℕ) → Decodes bytes vs at mid → Decodes bytes ws mid end → Decodes bytes (vs ++ ws) at end
   unfolding Decodes
-  decodes-both [] ws at mid end d e = subst (λ (k : ℕ). Decodes bytes ws k end) (sym d) e
-  decodes-both (v ∷ vs) ws at mid end d e = record { next = d.next; number = d.number; rest = decodes-both vs ws d.next mid end d.rest e }
+  decodes_both [] ws at mid end d e = subst (λ (k : ℕ). Decodes bytes ws k end) (sym d) e
+  decodes_both (v ∷ vs) ws at mid end d e = record { next = d.next; number = d.number; rest = decodes_both vs ws d.next mid end d.rest e }
 
   -- where the first of two lists ends
   pub record Parted (vs ws : List ℕ) (at end : ℕ) : Type 0 where
@@ -71,42 +71,42 @@ module _ (bytes : List ℕ) where
     pub front : Decodes bytes vs at mid
     pub back : Decodes bytes ws mid end
 
-  pub decodes-part : (vs ws : List ℕ) (at end : ℕ) → Decodes bytes (vs ++ ws) at end → Parted vs ws at end
+  pub decodes_part : (vs ws : List ℕ) (at end : ℕ) → Decodes bytes (vs ++ ws) at end → Parted vs ws at end
   unfolding Decodes
-  decodes-part [] ws at end d = record { mid = at; front = refl; back = d }
-  decodes-part (v ∷ vs) ws at end d =
-      let p : Parted vs ws d.next end = decodes-part vs ws d.next end d.rest in
+  decodes_part [] ws at end d = record { mid = at; front = refl; back = d }
+  decodes_part (v ∷ vs) ws at end d =
+      let p : Parted vs ws d.next end = decodes_part vs ws d.next end d.rest in
       record { mid = p.mid; front = record { next = d.next; number = d.number; rest = p.front }; back = p.back }
 
-  pub decodes-inside : (vs : List ℕ) (at end : ℕ) → at ≤ length bytes → Decodes bytes vs at end → end ≤ length bytes
+  pub decodes_inside : (vs : List ℕ) (at end : ℕ) → at ≤ length bytes → Decodes bytes vs at end → end ≤ length bytes
   unfolding Decodes
-  decodes-inside [] at end h d = omega arith
-  decodes-inside (v ∷ vs) at end h d = decodes-inside vs d.next end (number-inside bytes at v d.next d.number) d.rest
+  decodes_inside [] at end h d = omega arith
+  decodes_inside (v ∷ vs) at end h d = decodes_inside vs d.next end (number_inside bytes at v d.next d.number) d.rest
 
 -- ---- the bytes of numbers
 
-pub bytes-append : (vs ws : List ℕ) → bytes_of (vs ++ ws) ≡ bytes_of vs ++ bytes_of ws
+pub bytes_append : (vs ws : List ℕ) → bytes_of (vs ++ ws) ≡ bytes_of vs ++ bytes_of ws
 unfolding bytes_of
-bytes-append [] ws = refl
-bytes-append (v ∷ vs) ws = ap (λ (xs : List ℕ). encoded v ++ xs) (bytes-append vs ws) ∙ sym (append_assoc (encoded v) (bytes_of vs) (bytes_of ws))
+bytes_append [] ws = refl
+bytes_append (v ∷ vs) ws = ap (λ (xs : List ℕ). encoded v ++ xs) (bytes_append vs ws) ∙ sym (append_assoc (encoded v) (bytes_of vs) (bytes_of ws))
 
 -- each fits in 64 bits
 unfoldable pub Small : List ℕ → Type 0
-Small vs = T (allBut (notBelow (2 ^ 64)) vs)
+Small vs = T (all_but (not_below (2 ^ 64)) vs)
 
-pub small-first : (v : ℕ) (vs : List ℕ) → Small (v ∷ vs) → v < 2 ^ 64
-unfolding notBelow Small
-small-first v vs s = leb-false (2 ^ 64) v (is_false (notBelow (2 ^ 64) v) (and_left (not (notBelow (2 ^ 64) v)) (allBut (notBelow (2 ^ 64)) vs) s))
+pub small_first : (v : ℕ) (vs : List ℕ) → Small (v ∷ vs) → v < 2 ^ 64
+unfolding not_below Small
+small_first v vs s = leb-false (2 ^ 64) v (is_false (not_below (2 ^ 64) v) (and_left (not (not_below (2 ^ 64) v)) (all_but (not_below (2 ^ 64)) vs) s))
 
-pub small-rest : (v : ℕ) (vs : List ℕ) → Small (v ∷ vs) → Small vs
+pub small_rest : (v : ℕ) (vs : List ℕ) → Small (v ∷ vs) → Small vs
 unfolding Small
-small-rest v vs s = and_right (not (notBelow (2 ^ 64) v)) (allBut (notBelow (2 ^ 64)) vs) s
+small_rest v vs s = and_right (not (not_below (2 ^ 64) v)) (all_but (not_below (2 ^ 64)) vs) s
 
 -- numbers that were written are read, wherever they stand
-pub bytes-decode : (vs : List ℕ) → Small vs → (before rest : List ℕ) → Decodes (before ++ bytes_of vs ++ rest) vs (length before) (length before + length (bytes_of vs))
+pub bytes_decode : (vs : List ℕ) → Small vs → (before rest : List ℕ) → Decodes (before ++ bytes_of vs ++ rest) vs (length before) (length before + length (bytes_of vs))
 unfolding Decodes bytes_of
-bytes-decode [] s before rest = omega arith
-bytes-decode (v ∷ vs) s before rest =
+bytes_decode [] s before rest = omega arith
+bytes_decode (v ∷ vs) s before rest =
     let all : List ℕ = before ++ (encoded v ++ bytes_of vs) ++ rest in
     let split : before ++ encoded v ++ (bytes_of vs ++ rest) ≡ all =
     append_assoc before (encoded v) (bytes_of vs ++ rest)
@@ -118,9 +118,9 @@ bytes-decode (v ∷ vs) s before rest =
     let end : length (before ++ encoded v) + length (bytes_of vs) ≡ length before + length (encoded v ++ bytes_of vs) = omega (arith, mid, length-append (encoded v) (bytes_of vs)) in
     record {
       next = length before + length (encoded v);
-      number = subst (λ (xs : List ℕ). decodedAt xs (length before) ≡ Dec.Number v (length before + length (encoded v))) split (decode-encoded v (small-first v vs s) before (bytes_of vs ++ rest));
+      number = subst (λ (xs : List ℕ). decoded_at xs (length before) ≡ Dec.Number v (length before + length (encoded v))) split (decode_encoded v (small_first v vs s) before (bytes_of vs ++ rest));
       rest =
           subst (λ (k : ℕ). Decodes all vs k (length before + length (encoded v ++ bytes_of vs))) mid
           (subst (λ (k : ℕ). Decodes all vs (length (before ++ encoded v)) k) end
-          (subst (λ (xs : List ℕ). Decodes xs vs (length (before ++ encoded v)) (length (before ++ encoded v) + length (bytes_of vs))) shifted (bytes-decode vs (small-rest v vs s) (before ++ encoded v) rest)));
+          (subst (λ (xs : List ℕ). Decodes xs vs (length (before ++ encoded v)) (length (before ++ encoded v) + length (bytes_of vs))) shifted (bytes_decode vs (small_rest v vs s) (before ++ encoded v) rest)));
     }

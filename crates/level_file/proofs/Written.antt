@@ -5,20 +5,20 @@ use mathlib.Core.Path.{◌≡◌, refl, ap, ◌∙◌}
 use mathlib.Core.List.{List}
 use lib.ListN.{length, take, drop}
 use lib.Seq.{take_at}
-use Rattle.rules.proofs.AnswerLaws.{kept-zero}
-use Rattle.level_file.specs.Format.{Level, fileOf, filled}
-use Rattle.level_file.specs.Reading.{readFile}
+use Rattle.rules.proofs.AnswerLaws.{kept_zero}
+use Rattle.level_file.specs.Format.{Level, file_of, filled}
+use Rattle.level_file.specs.Reading.{read_file}
 use Rattle.level_file.specs.Reading.Read.{Got}
-use Rattle.level_file.specs.Writing.{writeNumber, bytesAfter}
-use Rattle.level_file.proofs.Accepts.{read-written}
+use Rattle.level_file.specs.Writing.{write_number, bytes_after}
+use Rattle.level_file.proofs.Accepts.{read_written}
 use Rattle.level_file.proofs.WriteLaws.{wrote}
 
-module _ (l : Level) (before : List ℕ) (done : writeNumber l (length before) ≡ 0) where
-  pub written : take (length (fileOf l)) (bytesAfter l before) ≡ fileOf l
-  unfolding bytesAfter filled
-  written = ap (take (length (fileOf l))) (kept-zero (writeNumber l (length before)) _ _ done) ∙ take_at (fileOf l) (drop (length (fileOf l)) before) (length (fileOf l)) refl
+module _ (l : Level) (before : List ℕ) (done : write_number l (length before) ≡ 0) where
+  pub written : take (length (file_of l)) (bytes_after l before) ≡ file_of l
+  unfolding bytes_after filled
+  written = ap (take (length (file_of l))) (kept_zero (write_number l (length before)) _ _ done) ∙ take_at (file_of l) (drop (length (file_of l)) before) (length (file_of l)) refl
 
   pub written_read : (seedRoom holeRoom : ℕ) → l.settings.buckets ≤ seedRoom → length l.holes ≤ holeRoom
-      → readFile (take (length (fileOf l)) (bytesAfter l before)) seedRoom holeRoom ≡ Got l (length (fileOf l))
+      → read_file (take (length (file_of l)) (bytes_after l before)) seedRoom holeRoom ≡ Got l (length (file_of l))
   written_read seedRoom holeRoom seedsFit holesFit =
-      ap (λ (bytes : List ℕ). readFile bytes seedRoom holeRoom) written ∙ read-written l (wrote l (length before) done).0 seedRoom holeRoom seedsFit holesFit
+      ap (λ (bytes : List ℕ). read_file bytes seedRoom holeRoom) written ∙ read_written l (wrote l (length before) done).0 seedRoom holeRoom seedsFit holesFit

@@ -2,9 +2,9 @@
 use Rattle.std.specs.Prelude.{ℕ, ◌+◌, ◌-◌, ◌^◌, Bool, true, not, ◌&&◌, List, [], ◌∷◌, ◌++◌, ◌≡◌, T, ltb, leb, length, drop}
 use Rattle.rules.specs.declared.Settings.{Settings}
 use Rattle.rules.specs.Good.{Good}
-use Rattle.rules.specs.Lists.{concatMap, every}
+use Rattle.rules.specs.Lists.{concat_map, every}
 use Rattle.house_numbers.specs.declared.Decoded.TheVariants as Read
-use Rattle.house_numbers.specs.Decode.{decodedAt}
+use Rattle.house_numbers.specs.Decode.{decoded_at}
 use Rattle.house_numbers.specs.Encode.{encoded}
 
 pub record Level : Type 0 where
@@ -12,64 +12,64 @@ pub record Level : Type 0 where
   pub seeds : List ℕ
   pub holes : List ℕ
 
-abbrev pub levelOf : Settings → (seeds holes : List ℕ) → Level
-levelOf s seeds holes = record { settings = s; seeds = seeds; holes = holes }
+abbrev pub level_of : Settings → (seeds holes : List ℕ) → Level
+level_of s seeds holes = record { settings = s; seeds = seeds; holes = holes }
 
 -- ---- its numbers
 
 -- each hole's difference from the one before
-unfoldable pub gapsFrom : (before : ℕ) → (holes : List ℕ) → List ℕ
-gapsFrom before [] = []
-gapsFrom before (h ∷ hs) = (h - before) ∷ gapsFrom h hs
+unfoldable pub gaps_from : (before : ℕ) → (holes : List ℕ) → List ℕ
+gaps_from before [] = []
+gaps_from before (h ∷ hs) = (h - before) ∷ gaps_from h hs
 
 -- m, log2_slice_len, ll, sb, B
-unfoldable pub settingsNumbers : Settings → List ℕ
-settingsNumbers s = s.m ∷ s.log2_slice_len ∷ s.ll ∷ s.sb ∷ s.buckets ∷ []
+unfoldable pub settings_numbers : Settings → List ℕ
+settings_numbers s = s.m ∷ s.log2_slice_len ∷ s.ll ∷ s.sb ∷ s.buckets ∷ []
 
 -- version 1, the settings, the seeds, the hole count, the first hole and the differences
-unfoldable pub numbersOf : Level → List ℕ
-numbersOf l = 1 ∷ settingsNumbers l.settings ++ (l.seeds ++ length l.holes ∷ gapsFrom 0 l.holes)
+unfoldable pub numbers_of : Level → List ℕ
+numbers_of l = 1 ∷ settings_numbers l.settings ++ (l.seeds ++ length l.holes ∷ gaps_from 0 l.holes)
 
 -- ---- its bytes
 
 unfoldable pub bytes_of : List ℕ → List ℕ
-bytes_of = concatMap encoded
+bytes_of = concat_map encoded
 
-unfoldable pub fileOf : Level → List ℕ
-fileOf l = bytes_of (numbersOf l)
+unfoldable pub file_of : Level → List ℕ
+file_of l = bytes_of (numbers_of l)
 
 -- ---- what may be written: settings that pass 1 to 7, B seeds below 2^sb, holes that rise and lie below m (and so are at most m)
 
-unfoldable pub notBelow : (limit v : ℕ) → Bool
-notBelow limit v = leb limit v
+unfoldable pub not_below : (limit v : ℕ) → Bool
+not_below limit v = leb limit v
 
 -- a seed of 2^sb or more
-abbrev pub seedBad : Settings → (seed : ℕ) → Bool
-seedBad s = notBelow (2 ^ s.sb)
+abbrev pub seed_bad : Settings → (seed : ℕ) → Bool
+seed_bad s = not_below (2 ^ s.sb)
 
-abbrev pub allBut : (bad : ℕ → Bool) → List ℕ → Bool
-allBut bad vs = every (λ v. not (bad v)) vs
+abbrev pub all_but : (bad : ℕ → Bool) → List ℕ → Bool
+all_but bad vs = every (λ v. not (bad v)) vs
 
-unfoldable pub seedsFine : Settings → (seeds : List ℕ) → Bool
-seedsFine s seeds = allBut (seedBad s) seeds
+unfoldable pub seeds_fine : Settings → (seeds : List ℕ) → Bool
+seeds_fine s seeds = all_but (seed_bad s) seeds
 
 -- the holes after `before` rise by `least` and then by 1 at least, and lie below m
-unfoldable pub holesFine : (m before least : ℕ) → (holes : List ℕ) → Bool
-holesFine m before least [] = true
-holesFine m before least (h ∷ hs) = (leb (before + least) h && ltb h m) && holesFine m h 1 hs
+unfoldable pub holes_fine : (m before least : ℕ) → (holes : List ℕ) → Bool
+holes_fine m before least [] = true
+holes_fine m before least (h ∷ hs) = (leb (before + least) h && ltb h m) && holes_fine m h 1 hs
 
 pub record Writable (l : Level) : Type 0 where
   pub good : Good l.settings
   pub many : length l.seeds ≡ l.settings.buckets
-  pub seeds-fine : T (seedsFine l.settings l.seeds)
-  pub holes-fine : T (holesFine l.settings.m 0 0 l.holes)
+  pub seeds_fine_lem : T (seeds_fine l.settings l.seeds)
+  pub holes_fine_lem : T (holes_fine l.settings.m 0 0 l.holes)
 
 -- ---- which files describe a level
 
 -- one house number from a place on, and what is said of the place after it
 pub record Front (bytes : List ℕ) (at v : ℕ) (Rest : (next : ℕ) → Type 0) : Type 0 where
   pub next : ℕ
-  pub number : decodedAt bytes at ≡ Read.Number v next
+  pub number : decoded_at bytes at ≡ Read.Number v next
   pub rest : Rest next
 
 -- the bytes from one place to another are these house numbers, one after the other
@@ -79,7 +79,7 @@ Decodes bytes (v ∷ vs) at end = Front bytes at v (λ next. Decodes bytes vs ne
 
 -- all bytes of a file are the numbers of the level
 unfoldable pub Describes : (bytes : List ℕ) → Level → Type 0
-Describes bytes l = Decodes bytes (numbersOf l) 0 (length bytes)
+Describes bytes l = Decodes bytes (numbers_of l) 0 (length bytes)
 
 -- ---- a buffer with values in front, and what lay beyond
 

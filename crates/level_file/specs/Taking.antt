@@ -2,7 +2,7 @@
 use Rattle.std.specs.Prelude.{ℕ, List}
 use Rattle.house_numbers.specs.declared.Decoded.{Decoded}
 use Rattle.house_numbers.specs.declared.Decoded.TheVariants as Read
-use Rattle.house_numbers.specs.Decode.{decodedAt}
+use Rattle.house_numbers.specs.Decode.{decoded_at}
 use Rattle.level_file.specs.declared.Taken.{Taken}
 use Rattle.level_file.specs.declared.Taken.TheVariants as Take
 
@@ -10,5 +10,5 @@ unfoldable pub taken_of : Decoded → Taken
 taken_of (Read.Number v next) = Take.Number v next
 taken_of Read.Refused = Take.Refused 22
 
-unfoldable pub takenAt : (bytes : List ℕ) → (at : ℕ) → Taken
-takenAt bytes at = taken_of (decodedAt bytes at)
+unfoldable pub taken_at : (bytes : List ℕ) → (at : ℕ) → Taken
+taken_at bytes at = taken_of (decoded_at bytes at)

@@ -1,40 +1,40 @@
 -- What writing a level answers, and what it leaves of the lent bytes. Assumes nothing.
 use Rattle.std.specs.Prelude.{ℕ, ◌≤◌, Bool, cond, not, ◌&&◌, List, [], ◌∷◌, ◌++◌, ltb, eqb, length, replicate}
-use Rattle.rules.specs.Numbers.{Line, line, first_of, linesTo7}
-use Rattle.rules.specs.Answers.{Said, Answer, Refusal, unless, keptUnless}
+use Rattle.rules.specs.Numbers.{Line, line, first_of, lines_to7}
+use Rattle.rules.specs.Answers.{Said, Answer, Refusal, unless, kept_unless}
 use Rattle.level_file.specs.declared.writing.FileWritten.{FileWritten}
 use Rattle.level_file.specs.declared.writing.FileWritten.TheVariants as File
 use Rattle.level_file.specs.declared.writing.Measured.{Measured}
 use Rattle.level_file.specs.declared.writing.Measured.TheVariants as Size
-use Rattle.level_file.specs.Format.{Level, bytes_of, fileOf, seedsFine, holesFine, filled}
+use Rattle.level_file.specs.Format.{Level, bytes_of, file_of, seeds_fine, holes_fine, filled}
 
 -- seeds not B long
-unfoldable pub seedsMissing : Level → Bool
-seedsMissing l = not (eqb (length l.seeds) l.settings.buckets)
+unfoldable pub seeds_missing : Level → Bool
+seeds_missing l = not (eqb (length l.seeds) l.settings.buckets)
 
 -- a seed of 2^sb or more, or a hole not rising or not below m
-unfoldable pub valuesBad : Level → Bool
-valuesBad l = not (seedsFine l.settings l.seeds && holesFine l.settings.m 0 0 l.holes)
+unfoldable pub values_bad : Level → Bool
+values_bad l = not (seeds_fine l.settings l.seeds && holes_fine l.settings.m 0 0 l.holes)
 
 -- 1 to 7, then 13, 24 and 26
-unfoldable pub writeLines : Level → (room : ℕ) → List Line
-writeLines l room = linesTo7 l.settings ++ line 13 (seedsMissing l) ∷ line 24 (valuesBad l) ∷ line 26 (ltb room (length (fileOf l))) ∷ []
+unfoldable pub write_lines : Level → (room : ℕ) → List Line
+write_lines l room = lines_to7 l.settings ++ line 13 (seeds_missing l) ∷ line 24 (values_bad l) ∷ line 26 (ltb room (length (file_of l))) ∷ []
 
-unfoldable pub writeNumber : Level → (room : ℕ) → ℕ
-writeNumber l room = first_of (writeLines l room)
+unfoldable pub write_number : Level → (room : ℕ) → ℕ
+write_number l room = first_of (write_lines l room)
 
 -- each case of the answer in numbers
-unfoldable pub saidWritten : FileWritten → Said
-saidWritten (File.Length n) = Answer (n ∷ [])
-saidWritten (File.Refused n) = Refusal n []
+unfoldable pub said_written : FileWritten → Said
+said_written (File.Length n) = Answer (n ∷ [])
+said_written (File.Refused n) = Refusal n []
 
 -- what is to be said: the file's length
-unfoldable pub writeAnswer : Level → (room : ℕ) → Said
-writeAnswer l room = unless (writeNumber l room) (Answer (length (fileOf l) ∷ []))
+unfoldable pub write_answer : Level → (room : ℕ) → Said
+write_answer l room = unless (write_number l room) (Answer (length (file_of l) ∷ []))
 
 -- the lent bytes afterwards: the file and what lay beyond, or zero on any refusal
-unfoldable pub bytesAfter : Level → (before : List ℕ) → List ℕ
-bytesAfter l before = keptUnless (writeNumber l (length before)) (replicate (length before) 0) (filled (fileOf l) before)
+unfoldable pub bytes_after : Level → (before : List ℕ) → List ℕ
+bytes_after l before = kept_unless (write_number l (length before)) (replicate (length before) 0) (filled (file_of l) before)
 
 -- ---- within the writer
 

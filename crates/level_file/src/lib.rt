@@ -4,7 +4,7 @@ mod reading;
 mod writing;
 
 ghost use Rattle.std.specs.Prelude.{◌≡◌};
-ghost use Rattle.level_file.specs.Taking.{takenAt};
+ghost use Rattle.level_file.specs.Taking.{taken_at};
 
 use house_numbers::{Decoded, decode};
 pub use reading::{FileRead, read_file};
@@ -26,7 +26,7 @@ pub enum Taken {
 
 // The number at a place. Refused: 22 where there is none.
 pub fn take_at(bytes: &[u8], at: usize) -> Taken
-    ensures { result ≡ takenAt bytes.now at }
+    ensures { result ≡ taken_at bytes.now at }
 {
     match decode(bytes, at) {
         Decoded::Number { value, next } => Taken::Number { value, next },
@@ -36,14 +36,14 @@ pub fn take_at(bytes: &[u8], at: usize) -> Taken
 
 // Hands over the number at the reader's place.
 pub fn next<'a>(reader: Reader<'a>) -> Taken
-    ensures { result ≡ takenAt reader.entry.bytes.now reader.entry.at }
+    ensures { result ≡ taken_at reader.entry.bytes.now reader.entry.at }
 {
     take_at(reader.bytes, reader.at)
 }
 
 // The number at a place of a lent file, through a reader that stands there. Whoever holds no reader calls this.
 pub fn number_at(bytes: &[u8], at: usize) -> Taken
-    ensures { result ≡ takenAt bytes.now at }
+    ensures { result ≡ taken_at bytes.now at }
 {
     next(Reader { bytes, at })
 }

@@ -1,11 +1,11 @@
 // A whole level file, number by number, into lent seeds and holes.
 ghost use Rattle.std.specs.Prelude.{◌≡◌, ◌+◌, ◌^◌, ◌≤◌, ◌<◌, length};
 ghost use Rattle.rules.specs.Good.{Good};
-ghost use Rattle.level_file.specs.Reading.{numbersAt, holesAt, headAt, holePart, body_at, readFile, checkedAt, refusedBy, told, Leaves};
+ghost use Rattle.level_file.specs.Reading.{numbers_at, holes_at, head_at, hole_part, body_at, read_file, checked_at, refused_by, told, Leaves};
 ghost use Rattle.level_file.specs.Reading.Read.{Got};
-ghost use Rattle.level_file.specs.Format.{notBelow};
-ghost use Rattle.rules.specs.Numbers.{first_of, linesTo7};
-ghost use Rattle.level_file.specs.Answer.{toldHead, toldFile, LeavesSeeds, LeavesHoles, saidRead, readAnswer, seedsAfter, holesAfter};
+ghost use Rattle.level_file.specs.Format.{not_below};
+ghost use Rattle.rules.specs.Numbers.{first_of, lines_to7};
+ghost use Rattle.level_file.specs.Answer.{told_head, told_file, LeavesSeeds, LeavesHoles, said_read, read_answer, seeds_after, holes_after};
 
 use super::{Taken, number_at};
 use crate::clearing::{clear_holes, clear_seeds};
@@ -30,8 +30,8 @@ pub enum FileRead {
 // Reads so many seeds. Refused: 22, and 24 for a seed that is not below the limit.
 pub fn read_seeds(bytes: &[u8], at: usize, limit: u64, count: usize, seeds: &mut [u16]) -> Taken
     requires { (limit ≤ 65536) × (count ≤ length seeds.old) }
-    ensures answer { result ≡ told (numbersAt bytes.now (notBelow limit) count at) }
-    ensures buffer { Leaves (numbersAt bytes.now (notBelow limit) count at) seeds.old seeds.new }
+    ensures answer { result ≡ told (numbers_at bytes.now (not_below limit) count at) }
+    ensures buffer { Leaves (numbers_at bytes.now (not_below limit) count at) seeds.old seeds.new }
 {
     let mut place = at;
     let mut i = 0;
@@ -60,8 +60,8 @@ pub fn read_seeds(bytes: &[u8], at: usize, limit: u64, count: usize, seeds: &mut
 // Refused: 22, and 24 for a hole that does not rise or is not below m.
 pub fn read_holes(bytes: &[u8], at: usize, m: u64, count: usize, holes: &mut [u32]) -> Taken
     requires { (m ≤ 134217728) × (count ≤ length holes.old) }
-    ensures answer { result ≡ told (holesAt bytes.now m count 0 0 at) }
-    ensures buffer { Leaves (holesAt bytes.now m count 0 0 at) holes.old holes.new }
+    ensures answer { result ≡ told (holes_at bytes.now m count 0 0 at) }
+    ensures buffer { Leaves (holes_at bytes.now m count 0 0 at) holes.old holes.new }
 {
     let mut place = at;
     let mut before = 0;
@@ -95,7 +95,7 @@ pub fn read_holes(bytes: &[u8], at: usize, m: u64, count: usize, holes: &mut [u3
 
 // The settings from a place on. Refused: 22, and 1 to 7 once all five are read.
 pub fn read_settings(bytes: &[u8], at: usize) -> Head
-    ensures { result ≡ toldHead (checkedAt bytes.now at) }
+    ensures { result ≡ told_head (checked_at bytes.now at) }
 {
     match number_at(bytes, at) {
         Taken::Number {
@@ -141,7 +141,7 @@ pub fn read_settings(bytes: &[u8], at: usize) -> Head
 
 // Settings that were read, unless one of 1 to 7 refuses them.
 fn checked_head(settings: Settings, next: usize) -> Head
-    ensures { result ≡ toldHead (refusedBy (first_of (linesTo7 settings)) (Got settings next)) }
+    ensures { result ≡ told_head (refused_by (first_of (lines_to7 settings)) (Got settings next)) }
 {
     let n = number_to_7(settings);
     if n != 0 {
@@ -152,7 +152,7 @@ fn checked_head(settings: Settings, next: usize) -> Head
 
 // The version and the settings. Refused: 22, 23 for a version other than 1, and 1 to 7.
 pub fn read_head(bytes: &[u8]) -> Head
-    ensures { result ≡ toldHead (headAt bytes.now) }
+    ensures { result ≡ told_head (head_at bytes.now) }
 {
     match number_at(bytes, 0) {
         Taken::Number { value, next } => {
@@ -169,8 +169,8 @@ pub fn read_head(bytes: &[u8]) -> Head
 // what `read_holes` refuses; 25 where bytes are left over.
 pub fn read_hole_part(bytes: &[u8], at: usize, m: u64, holes: &mut [u32]) -> Taken
     requires { m ≤ 134217728 }
-    ensures answer { result ≡ told (holePart bytes.now m (length holes.old) at) }
-    ensures buffer { Leaves (holePart bytes.now m (length holes.old) at) holes.old holes.new }
+    ensures answer { result ≡ told (hole_part bytes.now m (length holes.old) at) }
+    ensures buffer { Leaves (hole_part bytes.now m (length holes.old) at) holes.old holes.new }
 {
     match number_at(bytes, at) {
         Taken::Number { value: count, next } => {
@@ -203,7 +203,7 @@ pub fn read_body(
     holes: &mut [u32],
 ) -> FileRead
     requires { Good settings }
-    ensures answer { result ≡ toldFile (body_at bytes.now (length seeds.old) (length holes.old) settings at) }
+    ensures answer { result ≡ told_file (body_at bytes.now (length seeds.old) (length holes.old) settings at) }
     ensures first { LeavesSeeds (body_at bytes.now (length seeds.old) (length holes.old) settings at) seeds.old seeds.new }
     ensures second { LeavesHoles (body_at bytes.now (length seeds.old) (length holes.old) settings at) holes.old holes.new }
 {
@@ -227,9 +227,9 @@ pub fn read_body(
 
 // A whole file into lent seeds and holes, which a refusal leaves in any state.
 pub fn read_lent(bytes: &[u8], seeds: &mut [u16], holes: &mut [u32]) -> FileRead
-    ensures answer { result ≡ toldFile (readFile bytes.now (length seeds.old) (length holes.old)) }
-    ensures first { LeavesSeeds (readFile bytes.now (length seeds.old) (length holes.old)) seeds.old seeds.new }
-    ensures second { LeavesHoles (readFile bytes.now (length seeds.old) (length holes.old)) holes.old holes.new }
+    ensures answer { result ≡ told_file (read_file bytes.now (length seeds.old) (length holes.old)) }
+    ensures first { LeavesSeeds (read_file bytes.now (length seeds.old) (length holes.old)) seeds.old seeds.new }
+    ensures second { LeavesHoles (read_file bytes.now (length seeds.old) (length holes.old)) holes.old holes.new }
 {
     match read_head(bytes) {
         Head::Settings { settings, next } => read_body(bytes, next, settings, seeds, holes),
@@ -239,9 +239,9 @@ pub fn read_lent(bytes: &[u8], seeds: &mut [u16], holes: &mut [u32]) -> FileRead
 
 // Reads a level file. Success keeps what lies beyond the seeds and the holes; any refusal leaves both zero.
 pub fn read_file(bytes: &[u8], seeds: &mut [u16], holes: &mut [u32]) -> FileRead
-    ensures answer { saidRead result ≡ readAnswer (readFile bytes.now (length seeds.old) (length holes.old)) }
-    ensures first { seeds.new ≡ seedsAfter (readFile bytes.now (length seeds.old) (length holes.old)) seeds.old }
-    ensures second { holes.new ≡ holesAfter (readFile bytes.now (length seeds.old) (length holes.old)) holes.old }
+    ensures answer { said_read result ≡ read_answer (read_file bytes.now (length seeds.old) (length holes.old)) }
+    ensures first { seeds.new ≡ seeds_after (read_file bytes.now (length seeds.old) (length holes.old)) seeds.old }
+    ensures second { holes.new ≡ holes_after (read_file bytes.now (length seeds.old) (length holes.old)) holes.old }
 {
     match read_lent(bytes, seeds, holes) {
         FileRead::Level {

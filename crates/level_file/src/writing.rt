@@ -2,8 +2,8 @@
 ghost use Rattle.std.specs.Prelude.{◌≡◌, List, [], ◌∷◌, ◌+◌, ◌≤◌, length};
 ghost use Rattle.std.proofs.lemmas.List.Edits.{sets};
 ghost use Rattle.house_numbers.specs.Encode.{encoded};
-ghost use Rattle.level_file.specs.Format.{levelOf, settingsNumbers, gapsFrom, bytes_of, fileOf, notBelow, allBut, holesFine, filled};
-ghost use Rattle.level_file.specs.Writing.{writeNumber, saidWritten, writeAnswer, bytesAfter, measured, Climbs};
+ghost use Rattle.level_file.specs.Format.{level_of, settings_numbers, gaps_from, bytes_of, file_of, not_below, all_but, holes_fine, filled};
+ghost use Rattle.level_file.specs.Writing.{write_number, said_written, write_answer, bytes_after, measured, Climbs};
 
 use crate::clearing::clear_bytes;
 use geometry::settings::number_to_7;
@@ -41,7 +41,7 @@ fn wide32(x: u32) -> u64
 // The seeds: bad where one is not below the limit.
 pub fn measure_seeds(seeds: &[u16], limit: u64) -> Measured
     requires { length seeds.now ≤ 67108865 }
-    ensures { result ≡ measured (allBut (notBelow limit) seeds.now) seeds.now }
+    ensures { result ≡ measured (all_but (not_below limit) seeds.now) seeds.now }
 {
     let mut total = 0;
     let mut i = 0;
@@ -59,7 +59,7 @@ pub fn measure_seeds(seeds: &[u16], limit: u64) -> Measured
 // The holes by their differences: bad where one does not rise or is not below m.
 pub fn measure_holes(holes: &[u32], m: u64) -> Measured
     requires { m ≤ 134217728 }
-    ensures { result ≡ measured (holesFine m 0 0 holes.now) (gapsFrom 0 holes.now) }
+    ensures { result ≡ measured (holes_fine m 0 0 holes.now) (gaps_from 0 holes.now) }
 {
     let mut total = 0;
     let mut before = 0;
@@ -83,7 +83,7 @@ pub fn measure_holes(holes: &[u32], m: u64) -> Measured
 
 // The bytes of the version, the settings and the hole count.
 pub fn measure_head(settings: Settings, count: u64) -> usize
-    ensures { (result ≡ length (bytes_of (1 ∷ settingsNumbers settings)) + length (encoded count)) × (result ≤ 70) }
+    ensures { (result ≡ length (bytes_of (1 ∷ settings_numbers settings)) + length (encoded count)) × (result ≤ 70) }
 {
     group_count(1)
         + group_count(settings.m)
@@ -96,7 +96,7 @@ pub fn measure_head(settings: Settings, count: u64) -> usize
 
 // The first number that applies: 1 to 7, 13, 24, and 26 where the file has no room; or 0.
 pub fn write_number(settings: Settings, seeds: &[u16], holes: &[u32], room: usize) -> u64
-    ensures { result ≡ writeNumber (levelOf settings seeds.now holes.now) room }
+    ensures { result ≡ write_number (level_of settings seeds.now holes.now) room }
 {
     let n = number_to_7(settings);
     if n != 0 {
@@ -137,9 +137,9 @@ pub fn put_numbers(numbers: &[u64], out: &mut [u8], at: usize) -> usize
 
 // Writes the version and the settings, and answers the place after them.
 pub fn put_head(settings: Settings, out: &mut [u8]) -> usize
-    requires { length (bytes_of (1 ∷ settingsNumbers settings)) ≤ length out.old }
-    ensures value { result ≡ length (bytes_of (1 ∷ settingsNumbers settings)) }
-    ensures out_after { out.new ≡ sets out.old 0 (bytes_of (1 ∷ settingsNumbers settings)) }
+    requires { length (bytes_of (1 ∷ settings_numbers settings)) ≤ length out.old }
+    ensures value { result ≡ length (bytes_of (1 ∷ settings_numbers settings)) }
+    ensures out_after { out.new ≡ sets out.old 0 (bytes_of (1 ∷ settings_numbers settings)) }
 {
     let numbers = [
         1,
@@ -171,9 +171,9 @@ pub fn put_seeds(seeds: &[u16], out: &mut [u8], at: usize) -> usize
 // Writes the first hole and the differences from a place on, and answers the place after them.
 pub fn put_holes(holes: &[u32], out: &mut [u8], at: usize) -> usize
     requires climbs { Climbs 0 holes.now }
-    requires holes_in_bounds { at + length (bytes_of (gapsFrom 0 holes.now)) ≤ length out.old }
-    ensures value { result ≡ at + length (bytes_of (gapsFrom 0 holes.now)) }
-    ensures out_after { out.new ≡ sets out.old at (bytes_of (gapsFrom 0 holes.now)) }
+    requires holes_in_bounds { at + length (bytes_of (gaps_from 0 holes.now)) ≤ length out.old }
+    ensures value { result ≡ at + length (bytes_of (gaps_from 0 holes.now)) }
+    ensures out_after { out.new ≡ sets out.old at (bytes_of (gaps_from 0 holes.now)) }
 {
     let mut place = at;
     let mut before = 0;
@@ -190,9 +190,9 @@ pub fn put_holes(holes: &[u32], out: &mut [u8], at: usize) -> usize
 // Writes a file that has room, and answers its length.
 pub fn put_file(settings: Settings, seeds: &[u16], holes: &[u32], out: &mut [u8]) -> usize
     requires climbs { Climbs 0 holes.now }
-    requires holes_in_bounds { length (fileOf (levelOf settings seeds.now holes.now)) ≤ length out.old }
-    ensures value { result ≡ length (fileOf (levelOf settings seeds.now holes.now)) }
-    ensures out_after { out.new ≡ filled (fileOf (levelOf settings seeds.now holes.now)) out.old }
+    requires holes_in_bounds { length (file_of (level_of settings seeds.now holes.now)) ≤ length out.old }
+    ensures value { result ≡ length (file_of (level_of settings seeds.now holes.now)) }
+    ensures out_after { out.new ≡ filled (file_of (level_of settings seeds.now holes.now)) out.old }
 {
     let first = put_head(settings, out);
     let second = put_seeds(seeds, out, first);
@@ -202,8 +202,8 @@ pub fn put_file(settings: Settings, seeds: &[u16], holes: &[u32], out: &mut [u8]
 
 // Writes a level file. Success keeps what lies beyond the file; any refusal leaves all bytes zero.
 pub fn write_file(settings: Settings, seeds: &[u16], holes: &[u32], out: &mut [u8]) -> FileWritten
-    ensures answer { saidWritten result ≡ writeAnswer (levelOf settings seeds.now holes.now) (length out.old) }
-    ensures buffer { out.new ≡ bytesAfter (levelOf settings seeds.now holes.now) out.old }
+    ensures answer { said_written result ≡ write_answer (level_of settings seeds.now holes.now) (length out.old) }
+    ensures buffer { out.new ≡ bytes_after (level_of settings seeds.now holes.now) out.old }
 {
     let n = write_number(settings, seeds, holes, out.len());
     if n != 0 {

@@ -5,25 +5,25 @@ use Rattle.std.proofs.Math.Option.{Option, none, some}
 use Rattle.house_numbers.specs.declared.Part.{Part}
 use Rattle.house_numbers.specs.declared.Grown.{Grown}
 use Rattle.house_numbers.specs.declared.Grown.TheVariants as Grow
-use Rattle.house_numbers.specs.Decode.{noGroups, grownBy}
+use Rattle.house_numbers.specs.Decode.{no_groups, grown_by}
 
-abbrev pub inFront : ℕ → Option (List ℕ) → Option (List ℕ)
-inFront v none = none
-inFront v (some ns) = some (v ∷ ns)
+abbrev pub in_front : ℕ → Option (List ℕ) → Option (List ℕ)
+in_front v none = none
+in_front v (some ns) = some (v ∷ ns)
 
 -- the numbers after one more byte, from what the bytes that follow make of a part
-unfoldable pub numbersBy : Grown → (Part → Option (List ℕ)) → Option (List ℕ)
-numbersBy (Grow.More p) rest = rest p
-numbersBy (Grow.Whole v) rest = inFront v (rest noGroups)
-numbersBy Grow.Refused rest = none
+unfoldable pub numbers_by : Grown → (Part → Option (List ℕ)) → Option (List ℕ)
+numbers_by (Grow.More p) rest = rest p
+numbers_by (Grow.Whole v) rest = in_front v (rest no_groups)
+numbers_by Grow.Refused rest = none
 
 -- the numbers that the bytes are, of which the first goes on from a part; none where one is refused, or the bytes end within one
-unfoldable pub numbersFrom : List ℕ → Part → Option (List ℕ)
-numbersFrom [] p = cond (eqb p.groups 0) (some []) none
-numbersFrom (b ∷ bs) p = numbersBy (grownBy p b) (numbersFrom bs)
+unfoldable pub numbers_from : List ℕ → Part → Option (List ℕ)
+numbers_from [] p = cond (eqb p.groups 0) (some []) none
+numbers_from (b ∷ bs) p = numbers_by (grown_by p b) (numbers_from bs)
 
-unfoldable pub numbersOf : (bytes : List ℕ) → Option (List ℕ)
-numbersOf bytes = numbersFrom bytes noGroups
+unfoldable pub numbers_of : (bytes : List ℕ) → Option (List ℕ)
+numbers_of bytes = numbers_from bytes no_groups
 
 -- per bucket its key count and hashes, with so many hashes and then so many buckets still to come, and nothing left over
 unfoldable pub grouped : (keys buckets : ℕ) → List ℕ → Bool
@@ -31,13 +31,13 @@ grouped keys buckets [] = eqb keys 0 && eqb buckets 0
 grouped keys buckets (x ∷ xs) = cond (ltb 0 keys) (grouped (keys - 1) buckets xs) (cond (ltb 0 buckets) (grouped x (buckets - 1) xs) false)
 
 -- order: m, log2_slice_len, ll, sb, bump flag, seven weights, B, then per bucket its key count and hashes
-unfoldable pub wellFormed : List ℕ → Bool
-wellFormed ns = leb 13 (length ns) && (leb (get_or ns 4 0) 1 && grouped 0 (get_or ns 12 0) (drop 13 ns))
+unfoldable pub well_formed : List ℕ → Bool
+well_formed ns = leb 13 (length ns) && (leb (get_or ns 4 0) 1 && grouped 0 (get_or ns 12 0) (drop 13 ns))
 
-unfoldable pub ifFormed : Option (List ℕ) → Option (List ℕ)
-ifFormed none = none
-ifFormed (some ns) = cond (wellFormed ns) (some ns) none
+unfoldable pub if_formed : Option (List ℕ) → Option (List ℕ)
+if_formed none = none
+if_formed (some ns) = cond (well_formed ns) (some ns) none
 
 -- the numbers of an input without an error of form
 unfoldable pub form_of : (bytes : List ℕ) → Option (List ℕ)
-form_of bytes = ifFormed (numbersOf bytes)
+form_of bytes = if_formed (numbers_of bytes)

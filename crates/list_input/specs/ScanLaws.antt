@@ -4,46 +4,46 @@ use Rattle.std.proofs.Math.Numerals.{add-one}
 use Rattle.std.proofs.Math.Path.{refl}
 use Rattle.std.proofs.Common.{sym, ap, ◌∙◌, drop_of_length-le, drop-cons}
 use Rattle.house_numbers.specs.declared.Grown.{Grown}
-use Rattle.house_numbers.specs.Decode.{grownBy}
+use Rattle.house_numbers.specs.Decode.{grown_by}
 use Rattle.list_input.specs.declared.Scan.{Scan}
-use Rattle.list_input.specs.Scan.{scanBy, storeBy, fedScan, fedNumbers}
+use Rattle.list_input.specs.Scan.{scan_by, store_by, fed_scan, fed_numbers}
 
 module _ (s : Scan) (bytes : List ℕ) (i : ℕ) where
-  pub fed-end : length bytes ≤ i → fedScan s (drop i bytes) ≡ s
-  unfolding fedScan
-  fed-end h = rw (drop_of_length-le bytes h) refl
+  pub fed_end : length bytes ≤ i → fed_scan s (drop i bytes) ≡ s
+  unfolding fed_scan
+  fed_end h = rw (drop_of_length-le bytes h) refl
 
-  pub fed-byte : i < length bytes → fedScan s (drop i bytes) ≡ fedScan (scanBy s (grownBy s.part (get_or bytes i 0))) (drop (i + 1) bytes)
-  unfolding fedScan
-  fed-byte h = rw (drop-cons bytes i 0 h) (rw add-one refl)
+  pub fed_byte : i < length bytes → fed_scan s (drop i bytes) ≡ fed_scan (scan_by s (grown_by s.part (get_or bytes i 0))) (drop (i + 1) bytes)
+  unfolding fed_scan
+  fed_byte h = rw (drop-cons bytes i 0 h) (rw add-one refl)
 
   module _ (numbers : List ℕ) where
-    pub numbers-end : length bytes ≤ i → fedNumbers s numbers (drop i bytes) ≡ numbers
-    unfolding fedNumbers
-    numbers-end h = rw (drop_of_length-le bytes h) refl
+    pub numbers_end : length bytes ≤ i → fed_numbers s numbers (drop i bytes) ≡ numbers
+    unfolding fed_numbers
+    numbers_end h = rw (drop_of_length-le bytes h) refl
 
-    pub numbers-byte : i < length bytes
-        → fedNumbers s numbers (drop i bytes)
-        ≡ fedNumbers (scanBy s (grownBy s.part (get_or bytes i 0))) (storeBy s.count numbers (grownBy s.part (get_or bytes i 0))) (drop (i + 1) bytes)
-    unfolding fedNumbers
-    numbers-byte h = rw (drop-cons bytes i 0 h) (rw add-one refl)
+    pub numbers_byte : i < length bytes
+        → fed_numbers s numbers (drop i bytes)
+        ≡ fed_numbers (scan_by s (grown_by s.part (get_or bytes i 0))) (store_by s.count numbers (grown_by s.part (get_or bytes i 0))) (drop (i + 1) bytes)
+    unfolding fed_numbers
+    numbers_byte h = rw (drop-cons bytes i 0 h) (rw add-one refl)
 
 -- one more byte, as the code takes it
-module _ (s : Scan) (bytes : List ℕ) (i : ℕ) (h : i < length bytes) (g : Grown) (e : g ≡ grownBy s.part (get_or bytes i 0)) (next : Scan) (f : next ≡ scanBy s g) where
-  pub fed-step : fedScan next (drop (i + 1) bytes) ≡ fedScan s (drop i bytes)
-  fed-step = rw (f, e) (sym (fed-byte s bytes i h))
+module _ (s : Scan) (bytes : List ℕ) (i : ℕ) (h : i < length bytes) (g : Grown) (e : g ≡ grown_by s.part (get_or bytes i 0)) (next : Scan) (f : next ≡ scan_by s g) where
+  pub fed_step : fed_scan next (drop (i + 1) bytes) ≡ fed_scan s (drop i bytes)
+  fed_step = rw (f, e) (sym (fed_byte s bytes i h))
 
-  pub numbers-step : (numbers stored : List ℕ) → stored ≡ storeBy s.count numbers g
-      → fedNumbers next stored (drop (i + 1) bytes) ≡ fedNumbers s numbers (drop i bytes)
-  numbers-step numbers stored k = rw (f, k, e) (sym (numbers-byte s bytes i numbers h))
+  pub numbers_step : (numbers stored : List ℕ) → stored ≡ store_by s.count numbers g
+      → fed_numbers next stored (drop (i + 1) bytes) ≡ fed_numbers s numbers (drop i bytes)
+  numbers_step numbers stored k = rw (f, k, e) (sym (numbers_byte s bytes i numbers h))
 
 -- part after part is the whole
-pub fed-append : (s : Scan) (xs ys : List ℕ) → fedScan s (xs ++ ys) ≡ fedScan (fedScan s xs) ys
-unfolding fedScan
-fed-append s [] ys = refl
-fed-append s (b ∷ xs) ys = fed-append (scanBy s (grownBy s.part b)) xs ys
+pub fed_append : (s : Scan) (xs ys : List ℕ) → fed_scan s (xs ++ ys) ≡ fed_scan (fed_scan s xs) ys
+unfolding fed_scan
+fed_append s [] ys = refl
+fed_append s (b ∷ xs) ys = fed_append (scan_by s (grown_by s.part b)) xs ys
 
-pub numbers-append : (s : Scan) (numbers xs ys : List ℕ) → fedNumbers s numbers (xs ++ ys) ≡ fedNumbers (fedScan s xs) (fedNumbers s numbers xs) ys
-unfolding fedScan fedNumbers
-numbers-append s numbers [] ys = refl
-numbers-append s numbers (b ∷ xs) ys = numbers-append (scanBy s (grownBy s.part b)) (storeBy s.count numbers (grownBy s.part b)) xs ys
+pub numbers_append : (s : Scan) (numbers xs ys : List ℕ) → fed_numbers s numbers (xs ++ ys) ≡ fed_numbers (fed_scan s xs) (fed_numbers s numbers xs) ys
+unfolding fed_scan fed_numbers
+numbers_append s numbers [] ys = refl
+numbers_append s numbers (b ∷ xs) ys = numbers_append (scan_by s (grown_by s.part b)) (store_by s.count numbers (grown_by s.part b)) xs ys

@@ -1,15 +1,15 @@
 // What the numbers of an input without errors of form ask for.
 ghost use Rattle.std.specs.Prelude.{◌≡◌, true, false, ◌≤◌, length};
 ghost use Rattle.std.proofs.lemmas.List.Edits.{sets};
-ghost use Rattle.list_input.specs.Form.{wellFormed};
-ghost use Rattle.list_input.specs.Asked.{weightOf, settingsOf, bumpOf, weightsOf, hashesOf, beginsOf, overSize};
+ghost use Rattle.list_input.specs.Form.{well_formed};
+ghost use Rattle.list_input.specs.Asked.{weight_of, settings_of, bump_of, weights_of, hashes_of, begins_of, over_size};
 
 use rules::Settings;
 
 // m, log2_slice_len, ll, sb, and after the weights B.
 pub fn settings_of(ns: &[u64]) -> Settings
     requires { 13 ≤ length ns.now }
-    ensures { result ≡ settingsOf ns.now }
+    ensures { result ≡ settings_of ns.now }
 {
     Settings {
         m: ns[0],
@@ -23,14 +23,14 @@ pub fn settings_of(ns: &[u64]) -> Settings
 // The bump flag: 1 allows.
 pub fn bump_of(ns: &[u64]) -> bool
     requires { 13 ≤ length ns.now }
-    ensures { result ≡ bumpOf ns.now }
+    ensures { result ≡ bump_of ns.now }
 {
     ns[4] == 1
 }
 
 // A weight: w ≥ 0 came as 2w, else -2w-1.
 fn weight_of(n: u64) -> i64
-    ensures { result ≡ weightOf n }
+    ensures { result ≡ weight_of n }
 {
     let half = (n / 2) as i64;
     if n % 2 == 0 {
@@ -42,7 +42,7 @@ fn weight_of(n: u64) -> i64
 // The seven weights.
 pub fn weights_of(ns: &[u64]) -> [i64; 7]
     requires { 13 ≤ length ns.now }
-    ensures { result ≡ weightsOf ns.now }
+    ensures { result ≡ weights_of ns.now }
 {
     [
         weight_of(ns[5]),
@@ -57,8 +57,8 @@ pub fn weights_of(ns: &[u64]) -> [i64; 7]
 
 // 19, but for the work words: m > 1,024, B > 64, or over 128 keys. What is neither head nor key count is a hash.
 pub fn over_size(ns: &[u64]) -> bool
-    requires { wellFormed ns.now ≡ true }
-    ensures { result ≡ overSize ns.now }
+    requires { well_formed ns.now ≡ true }
+    ensures { result ≡ over_size ns.now }
 {
     if ns[0] > 1024 {
         return true;
@@ -72,11 +72,11 @@ pub fn over_size(ns: &[u64]) -> bool
 
 // Takes the groups apart: the hashes, and where each bucket's keys begin and at last end. Answers how many hashes there are.
 pub fn split(ns: &[u64], hashes: &mut [u64; 128], begins: &mut [u32; 65]) -> usize
-    requires ns_value { wellFormed ns.now ≡ true }
-    requires ns_value_2 { overSize ns.now ≡ false }
-    ensures value { (result ≡ length (hashesOf ns.now)) × (result ≤ 128) }
-    ensures hashes_after { hashes.new ≡ sets hashes.old 0 (hashesOf ns.now) }
-    ensures begins_after { begins.new ≡ sets begins.old 0 (beginsOf ns.now) }
+    requires ns_value { well_formed ns.now ≡ true }
+    requires ns_value_2 { over_size ns.now ≡ false }
+    ensures value { (result ≡ length (hashes_of ns.now)) × (result ≤ 128) }
+    ensures hashes_after { hashes.new ≡ sets hashes.old 0 (hashes_of ns.now) }
+    ensures begins_after { begins.new ≡ sets begins.old 0 (begins_of ns.now) }
 {
     let mut h: usize = 0;
     let mut b: usize = 0;

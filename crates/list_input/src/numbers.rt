@@ -1,12 +1,12 @@
 // The form, number by number: thirteen numbers at the head, then per bucket its key count and hashes.
 ghost use Rattle.std.specs.Prelude.{◌≡◌, ◌&&◌, ◌<◌};
-ghost use Rattle.list_input.specs.Scan.{flagFits, headStep, bodyStep, formStep, formEnds, brokenForm};
+ghost use Rattle.list_input.specs.Scan.{flag_fits, head_step, body_step, form_step, form_ends, broken_form};
 
 use crate::Form;
 
 // Still no error after a number of the head: the bump flag, the fifth number, is 0 or 1.
 fn still_fine(fine: bool, head: u64, v: u64) -> bool
-    ensures { result ≡ (fine && flagFits head v) }
+    ensures { result ≡ (fine && flag_fits head v) }
 {
     if head != 4 {
         return fine;
@@ -20,7 +20,7 @@ fn still_fine(fine: bool, head: u64, v: u64) -> bool
 // One of the thirteen numbers at the head. The last is the number of buckets to come.
 fn head_step(form: Form, v: u64) -> Form
     requires { form.head < 13 }
-    ensures { result ≡ headStep form v }
+    ensures { result ≡ head_step form v }
 {
     let head = form.head;
     let fine = still_fine(form.fine, head, v);
@@ -42,7 +42,7 @@ fn head_step(form: Form, v: u64) -> Form
 
 // A hash, or the next bucket's key count, or left over.
 fn body_step(form: Form, v: u64) -> Form
-    ensures { result ≡ bodyStep form v }
+    ensures { result ≡ body_step form v }
 {
     if form.keys > 0 {
         return Form {
@@ -65,7 +65,7 @@ fn body_step(form: Form, v: u64) -> Form
 
 // An error of form.
 pub fn broken(form: Form) -> Form
-    ensures { result ≡ brokenForm form }
+    ensures { result ≡ broken_form form }
 {
     Form {
         head: form.head,
@@ -77,7 +77,7 @@ pub fn broken(form: Form) -> Form
 
 // One more number.
 pub fn form_step(form: Form, v: u64) -> Form
-    ensures { result ≡ formStep form v }
+    ensures { result ≡ form_step form v }
 {
     if form.head < 13 {
         return head_step(form, v);
@@ -87,7 +87,7 @@ pub fn form_step(form: Form, v: u64) -> Form
 
 // No error so far, and nothing still to come.
 pub fn form_ends(form: Form) -> bool
-    ensures { result ≡ formEnds form }
+    ensures { result ≡ form_ends form }
 {
     if form.head < 13 {
         return false;

@@ -1,7 +1,7 @@
 // The input as it comes, byte by byte. However long it is, its form is followed to the end, and the first 205 numbers are kept: an
 // accepted input has no more (13 at the head, 64 key counts, 128 hashes).
 ghost use Rattle.std.specs.Prelude.{◌≡◌};
-ghost use Rattle.list_input.specs.Scan.{scanStart, counted, scanBy, storeBy, fedScan, fedNumbers, scanEnds};
+ghost use Rattle.list_input.specs.Scan.{scan_start, counted, scan_by, store_by, fed_scan, fed_numbers, scan_ends};
 
 use crate::numbers::{broken, form_ends, form_step};
 use crate::{Form, Scan};
@@ -9,7 +9,7 @@ use house_numbers::{Grown, Part, grow};
 
 // Nothing read yet.
 pub fn start() -> Scan
-    ensures { result ≡ scanStart }
+    ensures { result ≡ scan_start }
 {
     let part = Part {
         value: 0,
@@ -40,7 +40,7 @@ fn count_one(count: usize) -> usize
 
 // One more byte, as the part of a number that it made.
 fn scan_step(scan: Scan, grown: Grown) -> Scan
-    ensures { result ≡ scanBy scan grown }
+    ensures { result ≡ scan_by scan grown }
 {
     let none = Part {
         value: 0,
@@ -70,7 +70,7 @@ fn scan_step(scan: Scan, grown: Grown) -> Scan
 
 // Keeps a number that was read whole, if it is one of the first 205.
 fn store_step(count: usize, numbers: &mut [u64; 205], grown: Grown)
-    ensures { numbers.new ≡ storeBy count numbers.old grown }
+    ensures { numbers.new ≡ store_by count numbers.old grown }
 {
     match grown {
         Grown::Whole(v) => {
@@ -85,8 +85,8 @@ fn store_step(count: usize, numbers: &mut [u64; 205], grown: Grown)
 
 // Takes the next bytes of the input.
 pub fn feed(scan: Scan, numbers: &mut [u64; 205], chunk: &[u8]) -> Scan
-    ensures value { result ≡ fedScan scan chunk.now }
-    ensures numbers_after { numbers.new ≡ fedNumbers scan numbers.old chunk.now }
+    ensures value { result ≡ fed_scan scan chunk.now }
+    ensures numbers_after { numbers.new ≡ fed_numbers scan numbers.old chunk.now }
 {
     let mut now = scan;
     let mut i = 0;
@@ -101,7 +101,7 @@ pub fn feed(scan: Scan, numbers: &mut [u64; 205], chunk: &[u8]) -> Scan
 
 // The input may end here without an error of form (18).
 pub fn scan_ends(scan: Scan) -> bool
-    ensures { result ≡ scanEnds scan }
+    ensures { result ≡ scan_ends scan }
 {
     let part = scan.part;
     if part.groups != 0 {

@@ -6,11 +6,11 @@ use Rattle.std.proofs.lemmas.List.Edits.{sets}
 use Rattle.std.proofs.Math.Seq.{length-sets}
 
 -- one run of stores after another
-pub sets-append : (a b l : List ℕ) (i : ℕ) → sets (sets l i a) (i + length a) b ≡ sets l i (a ++ b)
-sets-append [] b l i = ap (λ (k : ℕ). sets l k b) (add-zero i)
-sets-append (x ∷ a) b l i =
+pub sets_append : (a b l : List ℕ) (i : ℕ) → sets (sets l i a) (i + length a) b ≡ sets l i (a ++ b)
+sets_append [] b l i = ap (λ (k : ℕ). sets l k b) (add-zero i)
+sets_append (x ∷ a) b l i =
     ap (λ (k : ℕ). sets (sets (set l i x) (suc i) a) k b) (add-suc i (length a) ∙ sym (suc-add i (length a)))
-    ∙ sets-append a b (set l i x) (suc i)
+    ∙ sets_append a b (set l i x) (suc i)
 
 -- all is to be stored from a place on; what is stored so far ends at another, where the rest goes
 pub record Writing (out₀ : List ℕ) (at : ℕ) (all out : List ℕ) (place : ℕ) (rest : List ℕ) : Type 0 where
@@ -18,36 +18,36 @@ pub record Writing (out₀ : List ℕ) (at : ℕ) (all out : List ℕ) (place : 
   pub text : sets out place rest ≡ sets out₀ at all
   pub ends : place + length rest ≡ at + length all
 
-pub write-start : (out : List ℕ) (at : ℕ) (all : List ℕ) → Writing out at all out at all
-write-start out at all = record { same = refl; text = refl; ends = refl }
+pub write_start : (out : List ℕ) (at : ℕ) (all : List ℕ) → Writing out at all out at all
+write_start out at all = record { same = refl; text = refl; ends = refl }
 
 module _ {out₀ : List ℕ} {at : ℕ} {all out : List ℕ} {place : ℕ} {rest : List ℕ} (w : Writing out₀ at all out place rest) where
   -- one piece more
-  pub write-piece : (piece later after : List ℕ) (next : ℕ) → rest ≡ piece ++ later → after ≡ sets out place piece → next ≡ place + length piece
+  pub write_piece : (piece later after : List ℕ) (next : ℕ) → rest ≡ piece ++ later → after ≡ sets out place piece → next ≡ place + length piece
       → Writing out₀ at all after next later
-  write-piece piece later after next e f g =
+  write_piece piece later after next e f g =
       record {
         same = ap length f ∙ length-sets out place piece ∙ w.same;
-        text = ap (λ (k : ℕ). sets after k later) g ∙ ap (λ (l : List ℕ). sets l (place + length piece) later) f ∙ sets-append piece later out place ∙ ap (sets out place) (sym e) ∙ w.text;
+        text = ap (λ (k : ℕ). sets after k later) g ∙ ap (λ (l : List ℕ). sets l (place + length piece) later) f ∙ sets_append piece later out place ∙ ap (sets out place) (sym e) ∙ w.text;
         ends = omega (arith, w.ends, ap length e, length-append piece later);
       }
 
   -- nothing more
   module _ (none : rest ≡ []) where
-    pub write-text : out ≡ sets out₀ at all
-    write-text = sym (ap (sets out place) none) ∙ w.text
+    pub write_text : out ≡ sets out₀ at all
+    write_text = sym (ap (sets out place) none) ∙ w.text
 
-    pub write-end : place ≡ at + length all
-    write-end = omega (arith, w.ends, ap length none)
+    pub write_end : place ≡ at + length all
+    write_end = omega (arith, w.ends, ap length none)
 
 -- a list written element by element
 module _ (text : List ℕ) (i : ℕ) where
-  pub rest-element : i < length text → drop i text ≡ (get_or text i 0 ∷ []) ++ drop (i + 1) text
-  rest-element h = drop-cons text i 0 h ∙ ap (λ (k : ℕ). get_or text i 0 ∷ drop k text) (sym (add-one i))
+  pub rest_element : i < length text → drop i text ≡ (get_or text i 0 ∷ []) ++ drop (i + 1) text
+  rest_element h = drop-cons text i 0 h ∙ ap (λ (k : ℕ). get_or text i 0 ∷ drop k text) (sym (add-one i))
 
   pub rest_end : length text ≤ i → drop i text ≡ []
   rest_end h = drop_of_length-le text h
 
 -- one element stored, and a run of stores after it
-pub sets-after : (out : List ℕ) (at x : ℕ) (text same last : List ℕ) → last ≡ sets (set out at x) (at + 1) text → text ≡ same → last ≡ sets out at (x ∷ same)
-sets-after out at x text same last e f = e ∙ ap (λ (k : ℕ). sets (set out at x) k text) (add-one at) ∙ ap (sets (set out at x) (suc at)) f
+pub sets_after : (out : List ℕ) (at x : ℕ) (text same last : List ℕ) → last ≡ sets (set out at x) (at + 1) text → text ≡ same → last ≡ sets out at (x ∷ same)
+sets_after out at x text same last e f = e ∙ ap (λ (k : ℕ). sets (set out at x) k text) (add-one at) ∙ ap (sets (set out at x) (suc at)) f

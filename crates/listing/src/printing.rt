@@ -1,14 +1,14 @@
 // The sweep that the numbers ask for, and its listing.
 ghost use Rattle.std.specs.Prelude.{◌≡◌, true, ℕ, ◌+◌, ◌≤◌, ◌<◌, length};
 ghost use Rattle.std.proofs.lemmas.List.Edits.{sets};
-ghost use Rattle.rules.specs.Holes.{holesOf};
-ghost use Rattle.rules.specs.Numbers.{bitmapWords, rising};
+ghost use Rattle.rules.specs.Holes.{holes_of};
+ghost use Rattle.rules.specs.Numbers.{bitmap_words, rising};
 ghost use Rattle.rules.specs.Order.{input_of};
-ghost use Rattle.log_table.specs.House.{houseTable};
+ghost use Rattle.log_table.specs.House.{house_table};
 ghost use Rattle.groups.specs.Groups.{Grouped};
-ghost use Rattle.list_input.specs.Form.{wellFormed};
-ghost use Rattle.list_output.specs.Text.{doneText};
-ghost use Rattle.listing.specs.Listing.{sweptText, askedText};
+ghost use Rattle.list_input.specs.Form.{well_formed};
+ghost use Rattle.list_output.specs.Text.{done_text};
+ghost use Rattle.listing.specs.Listing.{swept_text, asked_text};
 
 use crate::over_work;
 use holes::holes;
@@ -27,10 +27,10 @@ fn listed(
     bitmap: &[u64],
     out: &mut [u8],
 ) -> usize
-    requires le_m { (1 ≤ m) × (m ≤ 1024) × (length bitmap.now ≡ bitmapWords m) × (length seeds.now ≤ 64) × (32768 ≤ length out.old) }
+    requires le_m { (1 ≤ m) × (m ≤ 1024) × (length bitmap.now ≡ bitmap_words m) × (length seeds.now ≤ 64) × (32768 ≤ length out.old) }
     requires by_index { (b : ℕ) → b < length seeds.now → Grouped begins.now b }
-    ensures value { (result ≡ length (doneText m keys counts begins.now seeds.now (holesOf m bitmap.now))) × (result ≤ 32768) }
-    ensures out_after { out.new ≡ sets out.old 0 (doneText m keys counts begins.now seeds.now (holesOf m bitmap.now)) }
+    ensures value { (result ≡ length (done_text m keys counts begins.now seeds.now (holes_of m bitmap.now))) × (result ≤ 32768) }
+    ensures out_after { out.new ≡ sets out.old 0 (done_text m keys counts begins.now seeds.now (holes_of m bitmap.now)) }
 {
     let mut slots = [0u32; 1024];
     match holes(m, bitmap, &mut slots) {
@@ -57,10 +57,10 @@ fn swept(
     out: &mut [u8],
 ) -> usize
     requires m_bound { (settings.m ≤ 1024) × (settings.buckets ≤ 64) × (32768 ≤ length out.old) }
-    requires seeds_len { (length seeds.old ≡ settings.buckets) × (length bitmap.old ≡ bitmapWords settings.m) × (length work.old ≡ 8192) }
+    requires seeds_len { (length seeds.old ≡ settings.buckets) × (length bitmap.old ≡ bitmap_words settings.m) × (length work.old ≡ 8192) }
     requires by_index { (b : ℕ) → b < settings.buckets → Grouped begins.now b }
-    ensures value { (result ≡ length (sweptText bump (input_of settings weights hashes.now begins.now table.now))) × (result ≤ 32768) }
-    ensures out_after { out.new ≡ sets out.old 0 (sweptText bump (input_of settings weights hashes.now begins.now table.now)) }
+    ensures value { (result ≡ length (swept_text bump (input_of settings weights hashes.now begins.now table.now))) × (result ≤ 32768) }
+    ensures out_after { out.new ≡ sets out.old 0 (swept_text bump (input_of settings weights hashes.now begins.now table.now)) }
 {
     let how = How {
         bump: bump,
@@ -95,8 +95,8 @@ fn swept_alone(
 ) -> usize
     requires m_bound { (settings.m ≤ 1024) × (settings.buckets ≤ 64) × (32768 ≤ length out.old) }
     requires by_index { (b : ℕ) → b < settings.buckets → Grouped begins.now b }
-    ensures value { (result ≡ length (sweptText bump (input_of settings weights hashes.now begins.now houseTable))) × (result ≤ 32768) }
-    ensures out_after { out.new ≡ sets out.old 0 (sweptText bump (input_of settings weights hashes.now begins.now houseTable)) }
+    ensures value { (result ≡ length (swept_text bump (input_of settings weights hashes.now begins.now house_table))) × (result ≤ 32768) }
+    ensures out_after { out.new ≡ sets out.old 0 (swept_text bump (input_of settings weights hashes.now begins.now house_table)) }
 {
     let table = log_table::house();
     let mut seeds = [0u16; 64];
@@ -120,10 +120,10 @@ fn swept_alone(
 
 // What is printed for the numbers of an input without errors of form: 19, or the sweep.
 pub fn asked(ns: &[u64], out: &mut [u8]) -> usize
-    requires ns_value { wellFormed ns.now ≡ true }
+    requires ns_value { well_formed ns.now ≡ true }
     requires in_bounds { 32768 ≤ length out.old }
-    ensures value { (result ≡ length (askedText ns.now)) × (result ≤ 32768) }
-    ensures out_after { out.new ≡ sets out.old 0 (askedText ns.now) }
+    ensures value { (result ≡ length (asked_text ns.now)) × (result ≤ 32768) }
+    ensures out_after { out.new ≡ sets out.old 0 (asked_text ns.now) }
 {
     if over_size(ns) {
         return refused_text(19, Named::NoBucket, out);

@@ -12,16 +12,16 @@ use lib.Count.{count_leading_zeros, leading_top}
 use lib.ListN.{length, get_or, set}
 use lib.Seq.{get_or-set_same, get_or-set_other, ext_get_or}
 use lib.Pow.{pow_pos, pow_mono, shl_exact}
-use Rattle.log_table.specs.Logs.{digit, raised, squares, bits, logEntry, logTable, logLines, logAnswer, logsOut}
+use Rattle.log_table.specs.Logs.{digit, raised, squares, bits, log_entry, log_table, log_lines, log_answer, logs_out}
 use Rattle.rules.specs.Numbers.{first_of}
-use Rattle.rules.specs.Answers.{Answer, Refusal, unless, keptUnless}
+use Rattle.rules.specs.Answers.{Answer, Refusal, unless, kept_unless}
 use Rattle.log_table.proofs.Leading.{Low, High, halves, grown}
-use Rattle.log_table.proofs.LogLaws.{Long, long_of, long-small, entry_of, log-zero, log-doubles, table-length, table_at}
+use Rattle.log_table.proofs.LogLaws.{Long, long_of, long_small, entry_of, log_zero, log_doubles, table_length, table_at}
 
 -- ---- a squaring, whose upper word is h
 
-pub low-is : (h e : ℕ) → h < 2 ^ 63 → (2 * h ≡ raised h) × (2 * e ≡ 2 * e + digit h)
-low-is h e lt = by (halves h)
+pub low_is : (h e : ℕ) → h < 2 ^ 63 → (2 * h ≡ raised h) × (2 * e ≡ 2 * e + digit h)
+low_is h e lt = by (halves h)
   where
     by : Low h ⊎ High h → (2 * h ≡ raised h) × (2 * e ≡ 2 * e + digit h)
     by (inl l) = (omega arith, omega arith)
@@ -40,13 +40,13 @@ pub record Left (n x e r : ℕ) : Type 0 where
   pub same : squares n x e ≡ r
   pub small : r < 2 ^ 31
 
-pub left-start : (n x e : ℕ) → n ≤ 25 → e ≤ 63 → Left n x e (squares n x e)
-left-start n x e h k =
+pub left_start : (n x e : ℕ) → n ≤ 25 → e ≤ 63 → Left n x e (squares n x e)
+left_start n x e h k =
     let most : 2 ^ n ≤ 2 ^ 25 = pow_mono h in
     record { same = refl; small = omega (arith, (grown n x e).below, mul-le-mul most k) }
 
-pub left-small : (n x e r : ℕ) → Left n x e r → e < 2 ^ 31
-left-small n x e r l = omega (arith, l.same, l.small, (grown n x e).least, mul-le-mul_right e (pow_pos n))
+pub left_small : (n x e r : ℕ) → Left n x e r → e < 2 ^ 31
+left_small n x e r l = omega (arith, l.same, l.small, (grown n x e).least, mul-le-mul_right e (pow_pos n))
 
 pub left_step : (n x e y f r : ℕ) → 0 < n → y ≡ raised (x * x / 2 ^ 64) → f ≡ 2 * e + digit (x * x / 2 ^ 64) → Left n x e r → Left (n - 1) y f r
 unfolding squares
@@ -64,10 +64,10 @@ left_end (suc n) x e r h l = absurd (omega arith)
 
 pub record Begun (d z : ℕ) : Type 0 where
   pub short : z < 64
-  pub entry : (squares 25 (d * 2 ^ z % 2 ^ 64) (63 - z) + 1) / 2 ≡ logEntry d
+  pub entry : (squares 25 (d * 2 ^ z % 2 ^ 64) (63 - z) + 1) / 2 ≡ log_entry d
 
-begun-by : (d z k : ℕ) → z + suc k ≡ 64 → Long d k → Begun d z
-begun-by d z k e l =
+begun_by : (d z k : ℕ) → z + suc k ≡ 64 → Long d k → Begun d z
+begun_by d z k e l =
     let zeros : 63 - k ≡ z = omega arith in
     let length : k ≡ 63 - z = omega arith in
     let whole : d * 2 ^ z % 2 ^ 64 ≡ d * 2 ^ (63 - k) = shl_exact (suc k) z 64 (omega (arith, l.below)) (omega arith) ∙ ap (λ (n : ℕ). d * 2 ^ n) (sym zeros) in
@@ -79,64 +79,64 @@ begun-by d z k e l =
 pub begun : (d : ℕ) → 1 ≤ d → d < 2 ^ 64 → Begun d (count_leading_zeros 64 d)
 begun d h lt =
     let t = leading_top 64 d h lt in
-    begun-by d (count_leading_zeros 64 d) t.0 t.1 (record { least = t.2; below = omega (arith, t.3) })
+    begun_by d (count_leading_zeros 64 d) t.0 t.1 (record { least = t.2; below = omega (arith, t.3) })
 
 -- ---- an even entry from its half
 
-pub even_is : (d t : ℕ) → 1 ≤ d → d < 2 ^ 64 → d % 2 ≡ 0 → t ≡ logEntry (d / 2) → t + 2 ^ 24 ≡ logEntry d
+pub even_is : (d t : ℕ) → 1 ≤ d → d < 2 ^ 64 → d % 2 ≡ 0 → t ≡ log_entry (d / 2) → t + 2 ^ 24 ≡ log_entry d
 even_is d t h lt e s =
     let whole : 2 * (d / 2) ≡ d = omega arith in
-    omega (arith, log-doubles (d / 2) (omega arith) (omega arith), ap logEntry whole)
+    omega (arith, log_doubles (d / 2) (omega arith) (omega arith), ap log_entry whole)
 
 -- every entry of a word's number fits in 31 bits
-pub entry-small : (d : ℕ) → d < 2 ^ 64 → logEntry d < 2 ^ 31
-entry-small zero h = omega (arith, log-zero)
-entry-small (suc c) h =
+pub entry_small : (d : ℕ) → d < 2 ^ 64 → log_entry d < 2 ^ 31
+entry_small zero h = omega (arith, log_zero)
+entry_small (suc c) h =
     let d : ℕ = suc c in
     let k : ℕ = bits d - 1 in
     let l : Long d k = long_of d (omega arith) in
-    let short : k < 64 = long-small d k 64 l h in
+    let short : k < 64 = long_small d k 64 l h in
     omega (arith, entry_of d k l, (grown 25 (d * 2 ^ (63 - k)) k).below)
 
 -- ---- a table that is filled up to d
 
 pub record Filled (d : ℕ) (table : List ℕ) : Type 0 where
-  pub done : (i : ℕ) → i < d → get_or table i 0 ≡ logEntry i
+  pub done : (i : ℕ) → i < d → get_or table i 0 ≡ log_entry i
 
-pub filled-start : (table : List ℕ) (t : ℕ) → 1 ≤ length table → t ≡ 0 → Filled 1 (set table 0 t)
-filled-start table t h e = record { done = by }
+pub filled_start : (table : List ℕ) (t : ℕ) → 1 ≤ length table → t ≡ 0 → Filled 1 (set table 0 t)
+filled_start table t h e = record { done = by }
   where
-    by : (i : ℕ) → i < 1 → get_or (set table 0 t) i 0 ≡ logEntry i
-    by zero lt = get_or-set_same table 0 t 0 h ∙ e ∙ sym log-zero
+    by : (i : ℕ) → i < 1 → get_or (set table 0 t) i 0 ≡ log_entry i
+    by zero lt = get_or-set_same table 0 t 0 h ∙ e ∙ sym log_zero
     by (suc i) lt = absurd (omega arith)
 
-pub filled_put : (d t : ℕ) (table : List ℕ) → d < length table → t ≡ logEntry d → Filled d table → Filled (d + 1) (set table d t)
+pub filled_put : (d t : ℕ) (table : List ℕ) → d < length table → t ≡ log_entry d → Filled d table → Filled (d + 1) (set table d t)
 filled_put d t table h e f = record { done = λ i lt. by i lt (dec_le d i) }
   where
-    by : (i : ℕ) → i < d + 1 → Dec (d ≤ i) → get_or (set table d t) i 0 ≡ logEntry i
+    by : (i : ℕ) → i < d + 1 → Dec (d ≤ i) → get_or (set table d t) i 0 ≡ log_entry i
     by i lt (yes le) =
         let same : d ≡ i = omega arith in
-        subst (λ (j : ℕ). get_or (set table d t) j 0 ≡ logEntry j) same (get_or-set_same table d t 0 h ∙ e)
+        subst (λ (j : ℕ). get_or (set table d t) j 0 ≡ log_entry j) same (get_or-set_same table d t 0 h ∙ e)
     by i lt (no n) = get_or-set_other table d i t 0 (λ s. n (omega arith)) ∙ f.done i (omega arith)
 
-pub filled-end : (n : ℕ) (table : List ℕ) → length table ≡ n → Filled n table → table ≡ logTable n
-filled-end n table e f = ext_get_or 0 table (logTable n) (e ∙ sym (table-length n)) (λ i h. f.done i (omega arith) ∙ sym (table_at n i (omega arith)))
+pub filled_end : (n : ℕ) (table : List ℕ) → length table ≡ n → Filled n table → table ≡ log_table n
+filled_end n table e f = ext_get_or 0 table (log_table n) (e ∙ sym (table_length n)) (λ i h. f.done i (omega arith) ∙ sym (table_at n i (omega arith)))
 
 -- ---- the public call: what it answers and leaves
 
-pub refused_none : (xs : List ℕ) → length xs < 1 → (Refusal 21 [] ≡ logAnswer (length xs)) × (xs ≡ logsOut xs)
-unfolding logAnswer logsOut logLines first_of unless keptUnless
+pub refused_none : (xs : List ℕ) → length xs < 1 → (Refusal 21 [] ≡ log_answer (length xs)) × (xs ≡ logs_out xs)
+unfolding log_answer logs_out log_lines first_of unless kept_unless
 refused_none xs h = let e = lt-ltb (length xs) 1 h in (rw e refl, rw e refl)
 
-pub refused-many : (xs : List ℕ) → 1 ≤ length xs → 131072 < length xs → (Refusal 21 [] ≡ logAnswer (length xs)) × (xs ≡ logsOut xs)
-unfolding logAnswer logsOut logLines first_of unless keptUnless
-refused-many xs h k =
+pub refused_many : (xs : List ℕ) → 1 ≤ length xs → 131072 < length xs → (Refusal 21 [] ≡ log_answer (length xs)) × (xs ≡ logs_out xs)
+unfolding log_answer logs_out log_lines first_of unless kept_unless
+refused_many xs h k =
     let e = le-ltb (length xs) 1 h in
     let f = lt-ltb 131072 (length xs) k in
     (rw (e, f) refl, rw (e, f) refl)
 
-pub made : (xs ys : List ℕ) → 1 ≤ length xs → length xs ≤ 131072 → ys ≡ logTable (length xs) → (Answer [] ≡ logAnswer (length xs)) × (ys ≡ logsOut xs)
-unfolding logAnswer logsOut logLines first_of unless keptUnless
+pub made : (xs ys : List ℕ) → 1 ≤ length xs → length xs ≤ 131072 → ys ≡ log_table (length xs) → (Answer [] ≡ log_answer (length xs)) × (ys ≡ logs_out xs)
+unfolding log_answer logs_out log_lines first_of unless kept_unless
 made xs ys h k t =
     let e = le-ltb (length xs) 1 h in
     let f = le-ltb 131072 (length xs) k in

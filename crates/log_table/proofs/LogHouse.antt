@@ -6,21 +6,21 @@ use Prim.Native.Nat.{ℕ, ◌^◌, ◌≤◌}
 use native.Mathlib.Omega.{arith}
 use lib.ListN.{length, take}
 use Rattle.rules.specs.Answers.{Answer}
-use Rattle.log_table.specs.House.{houseTable}
-use Rattle.log_table.specs.Logs.{logTable, LogTable, logAnswer, logsOut}
-use Rattle.log_table.proofs.LogLaws.{log-table, table-take}
+use Rattle.log_table.specs.House.{house_table}
+use Rattle.log_table.specs.Logs.{log_table, LogTable, log_answer, logs_out}
+use Rattle.log_table.proofs.LogLaws.{log_table_lem, table_take}
 use Rattle.log_table.proofs.Entries.{made}
 
-pub begins-with-house : (n : ℕ) → 2048 ≤ n → take 2048 (logTable n) ≡ houseTable
-unfolding houseTable
-begins-with-house n h = table-take 2048 n h
+pub begins_with_house : (n : ℕ) → 2048 ≤ n → take 2048 (log_table n) ≡ house_table
+unfolding house_table
+begins_with_house n h = table_take 2048 n h
 
 module _ (xs : List ℕ) (most : length xs ≤ 131072) where
-  out : 1 ≤ length xs → (Answer [] ≡ logAnswer (length xs)) × (logTable (length xs) ≡ logsOut xs)
-  out h = made xs (logTable (length xs)) h most refl
+  out : 1 ≤ length xs → (Answer [] ≡ log_answer (length xs)) × (log_table (length xs) ≡ logs_out xs)
+  out h = made xs (log_table (length xs)) h most refl
 
-  pub filled : 1 ≤ length xs → (logAnswer (length xs) ≡ Answer []) × LogTable (length xs) (logsOut xs)
-  filled h = (sym (out h).0, subst (λ (ys : List ℕ). LogTable (length xs) ys) (out h).1 (log-table (length xs) h (omega arith)))
+  pub filled : 1 ≤ length xs → (log_answer (length xs) ≡ Answer []) × LogTable (length xs) (logs_out xs)
+  filled h = (sym (out h).0, subst (λ (ys : List ℕ). LogTable (length xs) ys) (out h).1 (log_table_lem (length xs) h (omega arith)))
 
-  pub filled-house : 2048 ≤ length xs → take 2048 (logsOut xs) ≡ houseTable
-  filled-house h = ap (λ (ys : List ℕ). take 2048 ys) (sym (out (omega arith)).1) ∙ begins-with-house (length xs) h
+  pub filled_house : 2048 ≤ length xs → take 2048 (logs_out xs) ≡ house_table
+  filled_house h = ap (λ (ys : List ℕ). take 2048 ys) (sym (out (omega arith)).1) ∙ begins_with_house (length xs) h

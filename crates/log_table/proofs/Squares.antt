@@ -7,7 +7,7 @@ use native.Mathlib.Nat.{mul-le-mul, mul-le-mul_left, mul-lt-mul_of_pos_right, di
 use native.Mathlib.Omega.{arith}
 use lib.Dec.{T, leb, ltb, leb→le, ltb→lt}
 use lib.Pow.{pow_pos, pow-add}
-use Rattle.integers.specs.Division.{ceil-bounds, pow-split}
+use Rattle.integers.specs.Division.{ceil_bounds, pow_split}
 use Rattle.log_table.specs.House.{Nearest}
 use Rattle.log_table.proofs.Walks.{both_left, both_right}
 
@@ -33,12 +33,12 @@ pub record Between (l h E y : ℕ) : Type 0 where
   pub low : l * E ≤ y
   pub high : y ≤ h * E
 
-decided-near : (N d l h e t : ℕ) → T (decided l h e t) → Between l h (2 ^ e) (d ^ N) → Nearest N d t
+decided_near : (N d l h e t : ℕ) → T (decided l h e t) → Between l h (2 ^ e) (d ^ N) → Nearest N d t
 unfolding decided
-decided-near N d l h e t pass b =
+decided_near N d l h e t pass b =
     let k : ℕ = 2 * t - e in
     let rest : T (ltb (2 ^ k) (2 * l) && ltb h (2 * 2 ^ k)) = both_right (leb e (2 * t)) (ltb (2 ^ k) (2 * l) && ltb h (2 * 2 ^ k)) pass in
-    let split : 2 ^ (2 * t) ≡ 2 ^ k * 2 ^ e = pow-split (2 * t) e (leb→le e (2 * t) (both_left (leb e (2 * t)) (ltb (2 ^ k) (2 * l) && ltb h (2 * 2 ^ k)) pass)) in
+    let split : 2 ^ (2 * t) ≡ 2 ^ k * 2 ^ e = pow_split (2 * t) e (leb→le e (2 * t) (both_left (leb e (2 * t)) (ltb (2 ^ k) (2 * l) && ltb h (2 * 2 ^ k)) pass)) in
     let lower : 2 ^ k * 2 ^ e < 2 * l * 2 ^ e = mul-lt-mul_of_pos_right (ltb→lt (2 ^ k) (2 * l) (both_left (ltb (2 ^ k) (2 * l)) (ltb h (2 * 2 ^ k)) rest)) (pow_pos e) in
     let upper : h * 2 ^ e < 2 * 2 ^ k * 2 ^ e = mul-lt-mul_of_pos_right (ltb→lt h (2 * 2 ^ k) (both_right (ltb (2 ^ k) (2 * l)) (ltb h (2 * 2 ^ k)) rest)) (pow_pos e) in
     let low : l * 2 ^ e ≤ d ^ N = b.low in
@@ -52,21 +52,21 @@ squared l h E y c k j b lo hi = record {
   high = omega (arith, mul-le-mul_left (E * E) hi, mul-le-mul b.high b.high);
 }
 
-double-pow : (e s : ℕ) → 2 ^ (2 * e + s) ≡ 2 ^ e * 2 ^ e * 2 ^ s
-double-pow e s = pow-add 2 (2 * e) s ∙ ap (λ (x : ℕ). x * 2 ^ s) (ap (λ (x : ℕ). 2 ^ x) (omega arith) ∙ pow-add 2 e e)
+double_pow : (e s : ℕ) → 2 ^ (2 * e + s) ≡ 2 ^ e * 2 ^ e * 2 ^ s
+double_pow e s = pow-add 2 (2 * e) s ∙ ap (λ (x : ℕ). x * 2 ^ s) (ap (λ (x : ℕ). 2 ^ x) (omega arith) ∙ pow-add 2 e e)
 
-pub close-near : (n m d l h e t : ℕ) → T (close n l h e t) → Between l h (2 ^ e) (d ^ m) → Nearest (m * 2 ^ n) d t
+pub close_near : (n m d l h e t : ℕ) → T (close n l h e t) → Between l h (2 ^ e) (d ^ m) → Nearest (m * 2 ^ n) d t
 unfolding close
-close-near zero m d l h e t pass b = subst (λ (k : ℕ). Nearest k d t) (sym (mul-one m)) (decided-near m d l h e t pass b)
-close-near (suc n) m d zero h e t pass b = absurd pass
-close-near (suc n) m d (suc p) zero e t pass b = absurd pass
-close-near (suc n) m d (suc p) (suc q) e t pass b =
+close_near zero m d l h e t pass b = subst (λ (k : ℕ). Nearest k d t) (sym (mul-one m)) (decided_near m d l h e t pass b)
+close_near (suc n) m d zero h e t pass b = absurd pass
+close_near (suc n) m d (suc p) zero e t pass b = absurd pass
+close_near (suc n) m d (suc p) (suc q) e t pass b =
     let s : ℕ = spare (suc p) in
     let k : ℕ = suc p * suc p / 2 ^ s in
     let j : ℕ = (suc q * suc q + (2 ^ s - 1)) / 2 ^ s in
     let lo : k * 2 ^ s ≤ suc p * suc p = div-mul-le_self (suc p * suc p) (2 ^ s) in
-    let hi : suc q * suc q ≤ j * 2 ^ s = (ceil-bounds (suc q * suc q) (2 ^ s) j (pow_pos s) refl).0 in
+    let hi : suc q * suc q ≤ j * 2 ^ s = (ceil_bounds (suc q * suc q) (2 ^ s) j (pow_pos s) refl).0 in
     let more : Between k j (2 ^ e * 2 ^ e * 2 ^ s) (d ^ m * d ^ m) = squared (suc p) (suc q) (2 ^ e) (d ^ m) (2 ^ s) k j b lo hi in
-    let next : Between k j (2 ^ (2 * e + s)) (d ^ (m + m)) = subst₂ (λ (x y : ℕ). Between k j x y) (sym (double-pow e s)) (sym (pow-add d m m)) more in
+    let next : Between k j (2 ^ (2 * e + s)) (d ^ (m + m)) = subst₂ (λ (x y : ℕ). Between k j x y) (sym (double_pow e s)) (sym (pow-add d m m)) more in
     let doubled : (m + m) * 2 ^ n ≡ m * 2 ^ suc n = omega (arith, ap (λ (x : ℕ). m * x) (pow-suc 2 n)) in
-    subst (λ (x : ℕ). Nearest x d t) doubled (close-near n (m + m) d k j (2 * e + s) t pass next)
+    subst (λ (x : ℕ). Nearest x d t) doubled (close_near n (m + m) d k j (2 * e + s) t pass next)

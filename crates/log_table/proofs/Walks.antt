@@ -39,14 +39,14 @@ each_at f i (x ∷ xs) t zero h = rw (add-zero i) (both_left (f i x) (each f (su
 each_at f i (x ∷ xs) t (suc k) h =
     subst (λ (m : ℕ). T (f m (get_or xs k 0))) (suc-add i k ∙ sym (add-suc i k)) (each_at f (suc i) xs (both_right (f i x) (each f (suc i) xs) t) k (le_of_suc-le-suc h))
 
-pub pairs-at : (f : ℕ → ℕ → ℕ → Bool) (i : ℕ) (xs ys : List ℕ) → T (pairs f i xs ys) → (k : ℕ) → k < length xs → k < length ys → T (f (i + k) (get_or xs k 0) (get_or ys k 0))
+pub pairs_at : (f : ℕ → ℕ → ℕ → Bool) (i : ℕ) (xs ys : List ℕ) → T (pairs f i xs ys) → (k : ℕ) → k < length xs → k < length ys → T (f (i + k) (get_or xs k 0) (get_or ys k 0))
 unfolding pairs
-pairs-at f i [] ys t k h g = absurd (not-suc-le-zero h)
-pairs-at f i (x ∷ xs) [] t k h g = absurd (not-suc-le-zero g)
-pairs-at f i (x ∷ xs) (y ∷ ys) t zero h g = rw (add-zero i) (both_left (f i x y) (pairs f (suc i) xs ys) t)
-pairs-at f i (x ∷ xs) (y ∷ ys) t (suc k) h g =
+pairs_at f i [] ys t k h g = absurd (not-suc-le-zero h)
+pairs_at f i (x ∷ xs) [] t k h g = absurd (not-suc-le-zero g)
+pairs_at f i (x ∷ xs) (y ∷ ys) t zero h g = rw (add-zero i) (both_left (f i x y) (pairs f (suc i) xs ys) t)
+pairs_at f i (x ∷ xs) (y ∷ ys) t (suc k) h g =
     subst (λ (m : ℕ). T (f m (get_or xs k 0) (get_or ys k 0))) (suc-add i k ∙ sym (add-suc i k))
-    (pairs-at f (suc i) xs ys (both_right (f i x y) (pairs f (suc i) xs ys) t) k (le_of_suc-le-suc h) (le_of_suc-le-suc g))
+    (pairs_at f (suc i) xs ys (both_right (f i x y) (pairs f (suc i) xs ys) t) k (le_of_suc-le-suc h) (le_of_suc-le-suc g))
 
 next : (k : ℕ) → 2 * suc k ≡ suc (suc (2 * k))
 next k = omega arith
@@ -59,9 +59,9 @@ evens_at (x ∷ []) (suc k) = rw (next k) refl
 evens_at (x ∷ y ∷ xs) zero = refl
 evens_at (x ∷ y ∷ xs) (suc k) = rw (next k) (evens_at xs k)
 
-pub evens-length : (xs : List ℕ) (n : ℕ) → length xs ≡ n + n → length (evens xs) ≡ n
+pub evens_length : (xs : List ℕ) (n : ℕ) → length xs ≡ n + n → length (evens xs) ≡ n
 unfolding evens
-evens-length [] n e = omega arith
-evens-length (x ∷ []) n e = absurd (omega arith)
-evens-length (x ∷ y ∷ xs) zero e = absurd (omega arith)
-evens-length (x ∷ y ∷ xs) (suc n) e = ap suc (evens-length xs n (omega arith))
+evens_length [] n e = omega arith
+evens_length (x ∷ []) n e = absurd (omega arith)
+evens_length (x ∷ y ∷ xs) zero e = absurd (omega arith)
+evens_length (x ∷ y ∷ xs) (suc n) e = ap suc (evens_length xs n (omega arith))

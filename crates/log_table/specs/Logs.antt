@@ -1,9 +1,9 @@
 -- A table of logarithms of any length: entry d is 2 ^ 24 · log2 d rounded, by squarings of one word. What is asked of such a table, and what filling
 -- a lent one answers and leaves. Assumes nothing.
 use Rattle.std.specs.Prelude.{◌≡◌, cond, List, [], ◌∷◌, ℕ, zero, suc, ◌+◌, ◌-◌, ◌*◌, ◌/◌, ◌^◌, ◌≤◌, ◌<◌, ltb, length, get_or}
-use Rattle.integers.specs.Power.{logUp}
+use Rattle.integers.specs.Power.{log_up}
 use Rattle.rules.specs.Numbers.{Line, line, first_of, outside}
-use Rattle.rules.specs.Answers.{Said, Answer, unless, keptUnless}
+use Rattle.rules.specs.Answers.{Said, Answer, unless, kept_unless}
 
 -- the upper word h of a square is from 2 ^ 62 on: the bit that tells whether it is from 2 ^ 63 on, and h shifted up to there
 unfoldable pub digit : ℕ → ℕ
@@ -19,19 +19,19 @@ squares (suc n) x e = let h = x * x / 2 ^ 64 in squares n (raised h) (2 * e + di
 
 -- how many bits d has
 unfoldable pub bits : ℕ → ℕ
-bits d = logUp (d + 1)
+bits d = log_up (d + 1)
 
 -- half the exponent of d squared 25 times, rounded
-unfoldable pub logEntry : ℕ → ℕ
-logEntry d = (squares 25 (d * 2 ^ (64 - bits d)) (bits d - 1) + 1) / 2
+unfoldable pub log_entry : ℕ → ℕ
+log_entry d = (squares 25 (d * 2 ^ (64 - bits d)) (bits d - 1) + 1) / 2
 
 -- the entries of n numbers from d on
-unfoldable pub logsFrom : ℕ → ℕ → List ℕ
-logsFrom zero d = []
-logsFrom (suc n) d = logEntry d ∷ logsFrom n (suc d)
+unfoldable pub logs_from : ℕ → ℕ → List ℕ
+logs_from zero d = []
+logs_from (suc n) d = log_entry d ∷ logs_from n (suc d)
 
-unfoldable pub logTable : ℕ → List ℕ
-logTable n = logsFrom n 0
+unfoldable pub log_table : ℕ → List ℕ
+log_table n = logs_from n 0
 
 -- ---- what is asked of it
 
@@ -46,18 +46,18 @@ pub record LogTable (n : ℕ) (table : List ℕ) : Type 0 where
   pub entry0 : get_or table 0 0 ≡ 0
   pub near : (d : ℕ) → 1 ≤ d → d < n → Close (2 ^ 24) d (get_or table d 0)
   pub powers : (k : ℕ) → 2 ^ k < n → get_or table (2 ^ k) 0 ≡ k * 2 ^ 24
-  pub never-falls : (c d : ℕ) → c ≤ d → d < n → get_or table c 0 ≤ get_or table d 0
+  pub never_falls : (c d : ℕ) → c ≤ d → d < n → get_or table c 0 ≤ get_or table d 0
   pub doubling : (d : ℕ) → 1 ≤ d → 2 * d < n → get_or table (2 * d) 0 ≡ get_or table d 0 + 2 ^ 24
 
 -- ---- to fill a lent table
 
 -- 21: length 0 or above 131,072
-unfoldable pub logLines : (entries : ℕ) → List Line
-logLines entries = line 21 (outside 1 131072 entries) ∷ []
+unfoldable pub log_lines : (entries : ℕ) → List Line
+log_lines entries = line 21 (outside 1 131072 entries) ∷ []
 
-unfoldable pub logAnswer : (entries : ℕ) → Said
-logAnswer entries = unless (first_of (logLines entries)) (Answer [])
+unfoldable pub log_answer : (entries : ℕ) → Said
+log_answer entries = unless (first_of (log_lines entries)) (Answer [])
 
 -- every entry, or all kept
-unfoldable pub logsOut : (before : List ℕ) → List ℕ
-logsOut before = keptUnless (first_of (logLines (length before))) before (logTable (length before))
+unfoldable pub logs_out : (before : List ℕ) → List ℕ
+logs_out before = kept_unless (first_of (log_lines (length before))) before (log_table (length before))

@@ -1,7 +1,7 @@
 // Makes a table of logarithms in a lent slice, by whole numbers only.
 ghost use Rattle.std.specs.Prelude.{◌≡◌, ◌+◌, ◌-◌, ◌*◌, ◌/◌, ◌^◌, ◌≤◌, ◌<◌, length, get_or};
-ghost use Rattle.log_table.specs.Logs.{digit, raised, logEntry, logTable, logAnswer, logsOut};
-ghost use Rattle.rules.specs.Answers.{saidChecked};
+ghost use Rattle.log_table.specs.Logs.{digit, raised, log_entry, log_table, log_answer, logs_out};
+ghost use Rattle.rules.specs.Answers.{said_checked};
 
 use integers::product::mul_hi;
 use rules::Checked;
@@ -36,7 +36,7 @@ fn squared(p: Leading) -> Leading
 // 2^24 * log2(d), rounded.
 fn log_entry(d: u64) -> u32
     requires { 1 ≤ d }
-    ensures { result ≡ logEntry d }
+    ensures { result ≡ log_entry d }
 {
     let zeros = u64::leading_zeros(d);
     let mut p = Leading {
@@ -53,8 +53,8 @@ fn log_entry(d: u64) -> u32
 
 // Entry d where the entries before it are there: an even d has 2^24 more than its half.
 fn next_entry(table: &[u32], d: usize) -> u32
-    requires { (1 ≤ d) × (d < length table.now) × (d < 2 ^ 63) × (get_or table.now (d / 2) 0 ≡ logEntry (d / 2)) × (logEntry (d / 2) < 2 ^ 31) }
-    ensures { result ≡ logEntry d }
+    requires { (1 ≤ d) × (d < length table.now) × (d < 2 ^ 63) × (get_or table.now (d / 2) 0 ≡ log_entry (d / 2)) × (log_entry (d / 2) < 2 ^ 31) }
+    ensures { result ≡ log_entry d }
 {
     if d % 2 == 0 {
         return table[d / 2] + 0x100_0000;
@@ -65,7 +65,7 @@ fn next_entry(table: &[u32], d: usize) -> u32
 // Writes every entry of the table.
 fn fill(table: &mut [u32])
     requires { (1 ≤ length table.old) × (length table.old ≤ 131072) }
-    ensures { table.new ≡ logTable (length table.old) }
+    ensures { table.new ≡ log_table (length table.old) }
 {
     table[0] = 0;
     for d in 1..table.len() {
@@ -75,8 +75,8 @@ fn fill(table: &mut [u32])
 
 // Fills the table, whose length is from 1 to 131,072. Any other length is refused with 21, and nothing is written.
 pub fn make_logs(table: &mut [u32]) -> Checked
-    ensures answer { saidChecked result ≡ logAnswer (length table.old) }
-    ensures buffer { table.new ≡ logsOut table.old }
+    ensures answer { said_checked result ≡ log_answer (length table.old) }
+    ensures buffer { table.new ≡ logs_out table.old }
 {
     if table.len() < 1 {
         return Checked::Refused(21);

@@ -10,15 +10,15 @@ use lib.Dec.{eqb}
 use lib.ListN.{length, get_or}
 use Rattle.rules.specs.declared.Settings.{Settings}
 use Rattle.rules.specs.declared.Looked.TheVariants.{Bumped, At, Refused}
-use Rattle.rules.specs.Geometry.{bucketOf, position}
-use Rattle.rules.specs.Holes.{slot_by, lookedUp}
+use Rattle.rules.specs.Geometry.{bucket_of, position}
+use Rattle.rules.specs.Holes.{slot_by, looked_up}
 use Rattle.rules.specs.Good.{Usable}
-use Rattle.rules.specs.Numbers.{first_of, line, linesTo6, lookupLines}
-use Rattle.rules.specs.Answers.{Answer, Refusal, saidLooked, lookupAnswer}
+use Rattle.rules.specs.Numbers.{first_of, line, lines_to6, lookup_lines}
+use Rattle.rules.specs.Answers.{Answer, Refusal, said_looked, lookup_answer}
 use Rattle.rules.proofs.Tests.{neq→neqb}
-use Rattle.rules.proofs.Lines.{first-append-some, first-append-zero, first-applies}
-use Rattle.rules.proofs.CheckLaws.{numbered-6, lookup-passes}
-use Rattle.rules.proofs.AnswerLaws.{unless-zero, unless-some}
+use Rattle.rules.proofs.Lines.{first_append_some, first_append_zero, first_applies}
+use Rattle.rules.proofs.CheckLaws.{numbered_6, lookup_passes}
+use Rattle.rules.proofs.AnswerLaws.{unless_zero, unless_some}
 
 -- a seed other than 0 gives its position
 slot_of : (s : Settings) (v h : ℕ) → v ≢ 0 → slot_by s v h ≡ position s v h ∷ []
@@ -27,39 +27,39 @@ slot_of s zero h n = absurd (n refl)
 slot_of s (suc v) h n = refl
 
 module _ (s : Settings) (seeds : List ℕ) (h : ℕ) where
-  pub bumped : get_or seeds (bucketOf s h) 0 ≡ 0 → saidLooked Bumped ≡ Answer (lookedUp s seeds h)
-  unfolding saidLooked lookedUp slot_by
+  pub bumped : get_or seeds (bucket_of s h) 0 ≡ 0 → said_looked Bumped ≡ Answer (looked_up s seeds h)
+  unfolding said_looked looked_up slot_by
   bumped e = ap (λ (v : ℕ). Answer (slot_by s v h)) (sym e)
 
-  pub found : (v x : ℕ) → get_or seeds (bucketOf s h) 0 ≡ v → v ≢ 0 → x ≡ position s v h → saidLooked (At x) ≡ Answer (lookedUp s seeds h)
-  unfolding saidLooked lookedUp
+  pub found : (v x : ℕ) → get_or seeds (bucket_of s h) 0 ≡ v → v ≢ 0 → x ≡ position s v h → said_looked (At x) ≡ Answer (looked_up s seeds h)
+  unfolding said_looked looked_up
   found v x e n p = ap (λ (y : ℕ). Answer (y ∷ [])) p ∙ sym (ap (λ (u : ℕ). Answer (slot_by s u h)) e ∙ ap Answer (slot_of s v h n))
 
   -- the number that applies
-  says : (n : ℕ) → n ≡ first_of (lookupLines s (length seeds)) → n ≢ 0 → saidLooked (Refused n) ≡ lookupAnswer s seeds h
-  unfolding saidLooked lookupAnswer
+  says : (n : ℕ) → n ≡ first_of (lookup_lines s (length seeds)) → n ≢ 0 → said_looked (Refused n) ≡ lookup_answer s seeds h
+  unfolding said_looked lookup_answer
   says n e z =
       ap (λ (k : ℕ). Refusal k []) e
-      ∙ sym (unless-some (first_of (lookupLines s (length seeds))) (Answer (lookedUp s seeds h)) (λ q. z (e ∙ q)))
+      ∙ sym (unless_some (first_of (lookup_lines s (length seeds))) (Answer (looked_up s seeds h)) (λ q. z (e ∙ q)))
 
   -- one of 1 to 6
-  pub refused : (n : ℕ) → n ≡ first_of (linesTo6 s) → n ≢ 0 → saidLooked (Refused n) ≡ lookupAnswer s seeds h
-  unfolding lookupLines
+  pub refused : (n : ℕ) → n ≡ first_of (lines_to6 s) → n ≢ 0 → said_looked (Refused n) ≡ lookup_answer s seeds h
+  unfolding lookup_lines
   refused n e z =
-      says n (e ∙ sym (first-append-some (linesTo6 s) (line 13 (not (eqb (length seeds) s.buckets)) ∷ []) (λ q. z (e ∙ q)))) z
+      says n (e ∙ sym (first_append_some (lines_to6 s) (line 13 (not (eqb (length seeds) s.buckets)) ∷ []) (λ q. z (e ∙ q)))) z
 
   -- 13
-  pub refused-13 : first_of (linesTo6 s) ≡ 0 → length seeds ≢ s.buckets → saidLooked (Refused 13) ≡ lookupAnswer s seeds h
-  unfolding lookupLines
-  refused-13 e z =
+  pub refused_13 : first_of (lines_to6 s) ≡ 0 → length seeds ≢ s.buckets → said_looked (Refused 13) ≡ lookup_answer s seeds h
+  unfolding lookup_lines
+  refused_13 e z =
       says 13
       (sym
-      (first-append-zero (linesTo6 s) (line 13 (not (eqb (length seeds) s.buckets)) ∷ []) (numbered-6 s) e
-      ∙ first-applies (line 13 (not (eqb (length seeds) s.buckets))) [] (neq→neqb (length seeds) s.buckets z)))
+      (first_append_zero (lines_to6 s) (line 13 (not (eqb (length seeds) s.buckets)) ∷ []) (numbered_6 s) e
+      ∙ first_applies (line 13 (not (eqb (length seeds) s.buckets))) [] (neq→neqb (length seeds) s.buckets z)))
       (λ q. omega arith)
 
   -- none
-  pub answered : Usable s → length seeds ≡ s.buckets → Answer (lookedUp s seeds h) ≡ lookupAnswer s seeds h
-  unfolding lookupAnswer
+  pub answered : Usable s → length seeds ≡ s.buckets → Answer (looked_up s seeds h) ≡ lookup_answer s seeds h
+  unfolding lookup_answer
   answered u e =
-      sym (unless-zero (first_of (lookupLines s (length seeds))) (Answer (lookedUp s seeds h)) (lookup-passes s (length seeds) u e))
+      sym (unless_zero (first_of (lookup_lines s (length seeds))) (Answer (looked_up s seeds h)) (lookup_passes s (length seeds) u e))

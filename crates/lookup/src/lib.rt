@@ -1,9 +1,9 @@
 // Lookup of a hash: Bumped if its bucket's seed is 0, else its position (rule H).
 ghost use Rattle.std.specs.Prelude.{◌≡◌, length};
-ghost use Rattle.rules.specs.Holes.{lookedUp};
-ghost use Rattle.rules.specs.Answers.{Answer, saidLooked, lookupAnswer};
+ghost use Rattle.rules.specs.Holes.{looked_up};
+ghost use Rattle.rules.specs.Answers.{Answer, said_looked, lookup_answer};
 ghost use Rattle.geometry.specs.Shape.{Made};
-ghost use Rattle.geometry.specs.Usual.{usualSettings};
+ghost use Rattle.geometry.specs.Usual.{usual_settings};
 
 use geometry::place::{bucket_of, position};
 use geometry::settings::number_to_6;
@@ -15,7 +15,7 @@ use rules::{Looked, Settings};
 pub fn lookup_in(g: Geometry, seeds: &[u16], hash: u64) -> Looked
     requires made { Made g }
     requires seeds_len { length seeds.now ≡ g.settings.buckets }
-    ensures { saidLooked result ≡ Answer (lookedUp g.settings seeds.now hash) }
+    ensures { said_looked result ≡ Answer (looked_up g.settings seeds.now hash) }
 {
     let b = bucket_of(g, hash) as usize;
     let seed = seeds[b];
@@ -27,8 +27,8 @@ pub fn lookup_in(g: Geometry, seeds: &[u16], hash: u64) -> Looked
 
 // The lookup past the choice of its shape: in the default one the geometry's numbers are literals.
 fn lookup_by(default: bool, settings: Settings, seeds: &[u16], hash: u64) -> Looked
-    requires { default ≡ usualSettings settings }
-    ensures { saidLooked result ≡ lookupAnswer settings seeds.now hash }
+    requires { default ≡ usual_settings settings }
+    ensures { said_looked result ≡ lookup_answer settings seeds.now hash }
 {
     let n = number_to_6(settings);
     if n != 0 {
@@ -47,7 +47,7 @@ fn lookup_by(default: bool, settings: Settings, seeds: &[u16], hash: u64) -> Loo
 
 // Looks a hash up. It need not be that of a key, and a seed is used as it stands.
 pub fn lookup(settings: Settings, seeds: &[u16], hash: u64) -> Looked
-    ensures { saidLooked result ≡ lookupAnswer settings seeds.now hash }
+    ensures { said_looked result ≡ lookup_answer settings seeds.now hash }
 {
     if usual_settings(settings) {
         return lookup_by(true, settings, seeds, hash);

@@ -9,21 +9,21 @@ use Rattle.std.specs.Int.Bits.{bit_and}
 use Rattle.words.specs.ShiftLaws.{and_low}
 use Rattle.words.specs.Cases.{same_or_not}
 use Rattle.rules.specs.declared.Settings.{Settings}
-use Rattle.rules.specs.Geometry.{layouts, sliceOf, offset_of, layoutOffset, stride}
-use Rattle.rules.specs.Ring.{ringOffset, columnOf}
-use Rattle.rings.specs.Parts.{front_same, front-set}
+use Rattle.rules.specs.Geometry.{layouts, slice_of, offset_of, layout_offset, stride}
+use Rattle.rules.specs.Ring.{ring_offset, column_of}
+use Rattle.rings.specs.Parts.{front_same, front_set}
 use Rattle.geometry.specs.declared.shape.Geometry.{Geometry}
 use Rattle.geometry.specs.Shape.{Made}
 use Rattle.geometry.proofs.Sizes.{sized}
-use Rattle.geometry.proofs.Places.{shift-lt}
-use Rattle.ring_keys.specs.RingKey.{ringKey, packed, LayoutsFilled, KeysFilled}
+use Rattle.geometry.proofs.Places.{shift_lt}
+use Rattle.ring_keys.specs.RingKey.{ring_key, packed, LayoutsFilled, KeysFilled}
 
 -- ---- one key
 
-pub key-packed : (s : Settings) (start r h : ℕ) → start ≤ sliceOf s h → packed (stride s) (sliceOf s h + 95 - start) (ringOffset s r h) ≡ ringKey s start r h
-unfolding packed ringKey columnOf
-key-packed s start r h le =
-    let e : sliceOf s h + 95 - start + ringOffset s r h % 2 ^ stride s ≡ sliceOf s h + ringOffset s r h % 2 ^ stride s + 95 - start = omega arith in
+pub key_packed : (s : Settings) (start r h : ℕ) → start ≤ slice_of s h → packed (stride s) (slice_of s h + 95 - start) (ring_offset s r h) ≡ ring_key s start r h
+unfolding packed ring_key column_of
+key_packed s start r h le =
+    let e : slice_of s h + 95 - start + ring_offset s r h % 2 ^ stride s ≡ slice_of s h + ring_offset s r h % 2 ^ stride s + 95 - start = omega arith in
     rw e refl
 
 -- ---- one hash, all layouts
@@ -35,8 +35,8 @@ pub record Layering (s : Settings) (h start at size r shift k : ℕ) (old now : 
   pub next : k ≡ at + r * size
   pub done : LayoutsFilled s h start at size r old now
 
-pub layering-none : (s : Settings) (h start at size : ℕ) (old : List ℕ) → Layering s h start at size 0 0 at old old
-layering-none s h start at size old = record {
+pub layering_none : (s : Settings) (h start at size : ℕ) (old : List ℕ) → Layering s h start at size 0 0 at old old
+layering_none s h start at size old = record {
   le = omega arith;
   shifted = omega arith;
   next = omega arith;
@@ -48,23 +48,23 @@ row_apart at size q r some lt e = let z : ⊥ = omega (arith, mul-le-mul_right s
 
 module _ {s : Settings} {h start at size r shift k : ℕ} {old now : List ℕ} (some : 1 ≤ size) (room : at + layouts s * size < length old + size)
     (a : Layering s h start at size r shift k old now) (lt : r < layouts s) where
-  row-end : r * size + size ≤ layouts s * size
-  row-end = omega (arith, mul-le-mul_right size lt)
+  row_end : r * size + size ≤ layouts s * size
+  row_end = omega (arith, mul-le-mul_right size lt)
 
   -- the word is there
-  pub layering-in : k < length now
-  layering-in = omega (arith, a.next, a.done.len, row-end)
+  pub layering_in : k < length now
+  layering_in = omega (arith, a.next, a.done.len, row_end)
 
-  pub layering-step : k + size ≤ at + layouts s * size
-  layering-step = omega (arith, a.next, row-end)
+  pub layering_step : k + size ≤ at + layouts s * size
+  layering_step = omega (arith, a.next, row_end)
 
-  pub layering-more : {v bits : ℕ} → v ≡ ringKey s start r h → bits ≡ 64 / layouts s → Layering s h start at size (r + 1) (shift + bits) (k + size) old (set now k v)
-  layering-more {v} {bits} e eb = record {
+  pub layering_more : {v bits : ℕ} → v ≡ ring_key s start r h → bits ≡ 64 / layouts s → Layering s h start at size (r + 1) (shift + bits) (k + size) old (set now k v)
+  layering_more {v} {bits} e eb = record {
     le = omega arith;
     shifted = omega (arith, a.shifted, eb);
     next = omega (arith, a.next);
     done = record {
-      front = front-set at now k v (omega (arith, a.next)) ∙ a.done.front;
+      front = front_set at now k v (omega (arith, a.next)) ∙ a.done.front;
       len = length-set now k v ∙ a.done.len;
       key = λ q l. ⊎_elim (here q) (there q l) (same_or_not q r);
       other = λ p n.
@@ -73,12 +73,12 @@ module _ {s : Settings} {h start at size r shift k : ℕ} {old now : List ℕ} (
     };
   }
     where
-      here : (q : ℕ) → q ≡ r → get_or (set now k v) (at + q * size) 0 ≡ ringKey s start q h
+      here : (q : ℕ) → q ≡ r → get_or (set now k v) (at + q * size) 0 ≡ ring_key s start q h
       here q eq =
-          subst (λ (x : ℕ). get_or (set now k v) (at + x * size) 0 ≡ ringKey s start x h) (sym eq)
-          (ap (λ (x : ℕ). get_or (set now k v) x 0) (sym a.next) ∙ get_or-set_same now k v 0 layering-in ∙ e)
+          subst (λ (x : ℕ). get_or (set now k v) (at + x * size) 0 ≡ ring_key s start x h) (sym eq)
+          (ap (λ (x : ℕ). get_or (set now k v) x 0) (sym a.next) ∙ get_or-set_same now k v 0 layering_in ∙ e)
 
-      there : (q : ℕ) → q < r + 1 → q ≢ r → get_or (set now k v) (at + q * size) 0 ≡ ringKey s start q h
+      there : (q : ℕ) → q < r + 1 → q ≢ r → get_or (set now k v) (at + q * size) 0 ≡ ring_key s start q h
       there q l ne =
           let below : q < r = omega arith in
           get_or-set_other now k (at + q * size) v 0 (subst (λ (x : ℕ). at + q * size ≢ x) (sym a.next) (row_apart at size q r some below))
@@ -91,7 +91,7 @@ pub record KeysTo (s : Settings) (hashes : List ℕ) (start at i : ℕ) (old now
   pub le : i ≤ length hashes
   pub front : take at now ≡ take at old
   pub len : length now ≡ length old
-  pub key : (r m : ℕ) → r < layouts s → m < i → get_or now (at + r * length hashes + m) 0 ≡ ringKey s start r (get_or hashes m 0)
+  pub key : (r m : ℕ) → r < layouts s → m < i → get_or now (at + r * length hashes + m) 0 ≡ ring_key s start r (get_or hashes m 0)
   pub after : (k : ℕ) → at + layouts s * length hashes ≤ k → get_or now k 0 ≡ get_or old k 0
 
 pub keys_none : (s : Settings) (hashes : List ℕ) (start at : ℕ) (old : List ℕ) → KeysTo s hashes start at 0 old old
@@ -102,31 +102,31 @@ column_apart at size r m q i hm hi ne e =
     let f : r * size + m ≡ q * size + i = omega arith in
     ne (sym (digits_mod r hm) ∙ ap (λ (x : ℕ). x % size) f ∙ digits_mod q hi)
 
-past-rows : (at size L p q i : ℕ) → q < L → i < size → at + L * size ≤ p → p ≢ at + i + q * size
-past-rows at size L p q i hq hi hp e = let z : ⊥ = omega (arith, digits_lt hq hi) in z
+past_rows : (at size L p q i : ℕ) → q < L → i < size → at + L * size ≤ p → p ≢ at + i + q * size
+past_rows at size L p q i hq hi hp e = let z : ⊥ = omega (arith, digits_lt hq hi) in z
 
-pub keys-more : {s : Settings} {hashes : List ℕ} {start at i : ℕ} {old mid now : List ℕ} → KeysTo s hashes start at i old mid → i < length hashes
+pub keys_more : {s : Settings} {hashes : List ℕ} {start at i : ℕ} {old mid now : List ℕ} → KeysTo s hashes start at i old mid → i < length hashes
     → LayoutsFilled s (get_or hashes i 0) start (at + i) (length hashes) (layouts s) mid now → KeysTo s hashes start at (i + 1) old now
-keys-more {s} {hashes} {start} {at} {i} {old} {mid} {now} a lt f = record {
+keys_more {s} {hashes} {start} {at} {i} {old} {mid} {now} a lt f = record {
   le = omega arith;
   front = front_same now mid (at + i) at (omega arith) f.front ∙ a.front;
   len = f.len ∙ a.len;
   key = λ r m lr lm. ⊎_elim (here r m lr) (there r m lr lm) (same_or_not m i);
-  after = λ k l. f.other k (λ q lq. past-rows at (length hashes) (layouts s) k q i lq lt l) ∙ a.after k l;
+  after = λ k l. f.other k (λ q lq. past_rows at (length hashes) (layouts s) k q i lq lt l) ∙ a.after k l;
 }
   where
-    here : (r m : ℕ) → r < layouts s → m ≡ i → get_or now (at + r * length hashes + m) 0 ≡ ringKey s start r (get_or hashes m 0)
+    here : (r m : ℕ) → r < layouts s → m ≡ i → get_or now (at + r * length hashes + m) 0 ≡ ring_key s start r (get_or hashes m 0)
     here r m lr e =
         let x : at + r * length hashes + m ≡ at + i + r * length hashes = omega arith in
-        ap (λ (k : ℕ). get_or now k 0) x ∙ f.key r lr ∙ ap (λ (k : ℕ). ringKey s start r (get_or hashes k 0)) (sym e)
+        ap (λ (k : ℕ). get_or now k 0) x ∙ f.key r lr ∙ ap (λ (k : ℕ). ring_key s start r (get_or hashes k 0)) (sym e)
 
-    there : (r m : ℕ) → r < layouts s → m < i + 1 → m ≢ i → get_or now (at + r * length hashes + m) 0 ≡ ringKey s start r (get_or hashes m 0)
+    there : (r m : ℕ) → r < layouts s → m < i + 1 → m ≢ i → get_or now (at + r * length hashes + m) 0 ≡ ring_key s start r (get_or hashes m 0)
     there r m lr lm ne =
         let below : m < i = omega arith in
         f.other (at + r * length hashes + m) (λ q lq. column_apart at (length hashes) r m q i (omega arith) lt ne) ∙ a.key r m lr below
 
-pub keys-all : {s : Settings} {hashes : List ℕ} {start at i : ℕ} {old now : List ℕ} → KeysTo s hashes start at i old now → length hashes ≤ i → KeysFilled s hashes start at old now
-keys-all {s} {hashes} {start} {at} {i} a h = record {
+pub keys_all : {s : Settings} {hashes : List ℕ} {start at i : ℕ} {old now : List ℕ} → KeysTo s hashes start at i old now → length hashes ≤ i → KeysFilled s hashes start at old now
+keys_all {s} {hashes} {start} {at} {i} a h = record {
   front = a.front;
   len = a.len;
   key = λ r m lr lm. a.key r m lr (omega arith);
@@ -137,34 +137,34 @@ keys-all {s} {hashes} {start} {at} {i} a h = record {
 
 module _ (g : Geometry) (made : Made g) where
   -- a key by the numbers of the geometry
-  pub key-code : (h start r shift offset base o v : ℕ) → start ≤ sliceOf g.settings h → shift ≡ r * (64 / layouts g.settings) → offset ≡ offset_of g.settings h
-      → base ≡ sliceOf g.settings h + 95 - start → o ≡ (offset / 2 ^ shift + r * 2 ^ g.scale) % g.l → v ≡ packed g.stride base o → v ≡ ringKey g.settings start r h
-  unfolding ringOffset layoutOffset
-  key-code h start r shift offset base o v le es eo eb ep ev =
+  pub key_code : (h start r shift offset base o v : ℕ) → start ≤ slice_of g.settings h → shift ≡ r * (64 / layouts g.settings) → offset ≡ offset_of g.settings h
+      → base ≡ slice_of g.settings h + 95 - start → o ≡ (offset / 2 ^ shift + r * 2 ^ g.scale) % g.l → v ≡ packed g.stride base o → v ≡ ring_key g.settings start r h
+  unfolding ring_offset layout_offset
+  key_code h start r shift offset base o v le es eo eb ep ev =
       let z = sized g made in
-      let place : o ≡ ringOffset g.settings r h = rw (ep, es, eo, z.scale-is, z.l-is) refl in
-      rw (ev, eb, place, z.stride-is) (key-packed g.settings start r h le)
+      let place : o ≡ ring_offset g.settings r h = rw (ep, es, eo, z.scale_is, z.l_is) refl in
+      rw (ev, eb, place, z.stride_is) (key_packed g.settings start r h le)
 
-  pub layouts-are : g.layouts ≡ layouts g.settings
+  pub layouts_are : g.layouts ≡ layouts g.settings
   unfolding layouts
-  layouts-are = (sized g made).layouts-is
+  layouts_are = (sized g made).layouts_is
 
   pub bits_are : g.layout_bits ≡ 64 / layouts g.settings
-  bits_are = (sized g made).bits_is ∙ ap (λ (x : ℕ). 64 / x) layouts-are
+  bits_are = (sized g made).bits_is ∙ ap (λ (x : ℕ). 64 / x) layouts_are
 
   -- a layout's shift is below 64
   pub shift_small : (r shift : ℕ) → shift ≡ r * (64 / layouts g.settings) → r < layouts g.settings → shift < 64
   shift_small r shift e lt =
       let z = sized g made in
-      rw (e) (shift-lt r (layouts g.settings) lt (rw (layouts-are) at z.layouts-low) (rw (layouts-are) at z.layouts-high))
+      rw (e) (shift_lt r (layouts g.settings) lt (rw (layouts_are) at z.layouts_low) (rw (layouts_are) at z.layouts_high))
 
 -- `o & ((1 << t) - 1)`
-pub column-code : (t o : ℕ) → t ≤ 16 → bit_and o (1 * 2 ^ t % 2 ^ 64 - 1) ≡ o % 2 ^ t
-column-code t o h = and_low 64 t o (omega arith)
+pub column_code : (t o : ℕ) → t ≤ 16 → bit_and o (1 * 2 ^ t % 2 ^ 64 - 1) ≡ o % 2 ^ t
+column_code t o h = and_low 64 t o (omega arith)
 
-pub pack-code : (t base o c : ℕ) → base < 2 ^ 31 → o < 65536 → c ≡ o % 2 ^ t → (c ≤ o) × ((base + c) * 2 ^ 32 % 2 ^ 64 + (o - c) ≡ packed t base o)
+pub pack_code : (t base o c : ℕ) → base < 2 ^ 31 → o < 65536 → c ≡ o % 2 ^ t → (c ≤ o) × ((base + c) * 2 ^ 32 % 2 ^ 64 + (o - c) ≡ packed t base o)
 unfolding packed
-pack-code t base o c hb ho e =
+pack_code t base o c hb ho e =
     let d : o / 2 ^ t * 2 ^ t + o % 2 ^ t ≡ o = div-add-mod' o (2 ^ t) in
     let le : c ≤ o = omega arith in
     let fit : (base + c) * 2 ^ 32 % 2 ^ 64 ≡ (base + c) * 2 ^ 32 = mod-eq_of_lt (omega arith) in

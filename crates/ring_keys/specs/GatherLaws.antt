@@ -10,7 +10,7 @@ use Rattle.std.proofs.Math.Seq.{take-set-lt}
 use Rattle.words.specs.Bit.{bit}
 use Rattle.words.specs.Cases.{same_or_not}
 use Rattle.rules.specs.declared.Settings.{Settings}
-use Rattle.rules.specs.Geometry.{layouts, sliceOf, offset_of}
+use Rattle.rules.specs.Geometry.{layouts, slice_of, offset_of}
 use Rattle.geometry.specs.declared.shape.Geometry.{Geometry}
 use Rattle.geometry.proofs.Sizes.{sized}
 use Rattle.rings.specs.declared.Ring.{Ring}
@@ -19,25 +19,25 @@ use Rattle.rings.specs.Keys.{slot_at, KeyRow}
 use Rattle.rings.specs.Parts.{front_same}
 use Rattle.rings.specs.Free.{Blocked}
 use Rattle.rings.specs.Blocked.{Within, BegunFree, FinishedFree, Added, BlockedAll}
-use Rattle.rings.specs.BlockedLaws.{begun-blocked, ring-same, added, blocked-added, filled-all}
-use Rattle.rings.specs.LevelLaws.{shape-level}
-use Rattle.ring_keys.specs.RingKey.{ringKey, ringKeys, packed, KeysFilled}
-use Rattle.ring_keys.specs.HashLaws.{start-le, key-ok}
+use Rattle.rings.specs.BlockedLaws.{begun_blocked, ring_same, added, blocked_added, filled_all}
+use Rattle.rings.specs.LevelLaws.{shape_level}
+use Rattle.ring_keys.specs.RingKey.{ring_key, ring_keys, packed, KeysFilled}
+use Rattle.ring_keys.specs.HashLaws.{start_le, key_ok}
 use Rattle.ring_keys.specs.LayoutLaws.{map_at}
-use Rattle.ring_keys.specs.FilledLaws.{filled-part}
-use Rattle.ring_keys.specs.FillLaws.{layering-none, layering-more, key-code, layouts-are, bits_are, shift_small, KeysTo, keys_none, keys-more, keys-all}
+use Rattle.ring_keys.specs.FilledLaws.{filled_part}
+use Rattle.ring_keys.specs.FillLaws.{layering_none, layering_more, key_code, layouts_are, bits_are, shift_small, KeysTo, keys_none, keys_more, keys_all}
 use Rattle.ring_keys.specs.Gathered.{RowReady, RowAdded, Below, HashReady, HashGathered, Ready, Gathered}
 
 -- ---- rows
 
 -- a row is told by the ring, which is the list's front
-added-same : {g : Ring} → Shape g → {l' : List ℕ} (l : List ℕ) {d start w x y : ℕ} → take g.words l' ≡ take g.words l → Added g l' d start w x y → Added g l d start w x y
-added-same {g} s {l'} l {d} {start} {w} {x} {y} e a = record {
-  at = λ j h hj. a.at j h hj ∙ ap (λ (b : ℕ). max (bit x j) b) (ring-same g s l' l e (slot_at g start d (64 * w + j)));
+added_same : {g : Ring} → Shape g → {l' : List ℕ} (l : List ℕ) {d start w x y : ℕ} → take g.words l' ≡ take g.words l → Added g l' d start w x y → Added g l d start w x y
+added_same {g} s {l'} l {d} {start} {w} {x} {y} e a = record {
+  at = λ j h hj. a.at j h hj ∙ ap (λ (b : ℕ). max (bit x j) b) (ring_same g s l' l e (slot_at g start d (64 * w + j)));
 }
 
-pub row-added : {g : Ring} {l : List ℕ} {d start p r : ℕ} → KeyRow g l d start 0 r → RowAdded g l d start p (set l p (bit_or (get_or l p 0) r))
-row-added {g} {l} {d} {start} {p} {r} a = record { word = bit_or (get_or l p 0) r; added = added (get_or l p 0) a; stored = refl }
+pub row_added : {g : Ring} {l : List ℕ} {d start p r : ℕ} → KeyRow g l d start 0 r → RowAdded g l d start p (set l p (bit_or (get_or l p 0) r))
+row_added {g} {l} {d} {start} {p} {r} a = record { word = bit_or (get_or l p 0) r; added = added (get_or l p 0) a; stored = refl }
 
 -- ---- one hash, all layouts
 
@@ -48,13 +48,13 @@ pub record Adding (g : Geometry) (ring : Ring) (h start at size to r shift k : �
   pub next : k ≡ at + r * size
   pub done : HashGathered g.settings ring h start at size to r old now
 
-pub adding-none : (g : Geometry) (ring : Ring) (h start at size to : ℕ) (old : List ℕ) → Adding g ring h start at size to 0 0 at old old
-adding-none g ring h start at size to old = record {
+pub adding_none : (g : Geometry) (ring : Ring) (h start at size to : ℕ) (old : List ℕ) → Adding g ring h start at size to 0 0 at old old
+adding_none g ring h start at size to old = record {
   le = omega arith;
   shifted = omega arith;
   next = omega arith;
   done = record {
-    keys = λ l e f. record { filled = l; done = (layering-none g.settings h start at size l).done; same = sym f };
+    keys = λ l e f. record { filled = l; done = (layering_none g.settings h start at size l).done; same = sym f };
     len = refl;
     rows = λ q l. absurd (not-suc-le-zero l);
     after = λ p l. refl;
@@ -62,15 +62,15 @@ adding-none g ring h start at size to old = record {
 }
 
 -- what is below the keys stays
-hash-front : {s : Settings} {ring : Ring} {h start at size to r : ℕ} {old now : List ℕ} (n : ℕ) → n ≤ at → at ≤ to → HashGathered s ring h start at size to r old now
+hash_front : {s : Settings} {ring : Ring} {h start at size to r : ℕ} {old now : List ℕ} (n : ℕ) → n ≤ at → at ≤ to → HashGathered s ring h start at size to r old now
     → take n now ≡ take n old
-hash-front {s} {ring} {h} {start} {at} {size} {to} {r} {old} {now} n le lt a =
+hash_front {s} {ring} {h} {start} {at} {size} {to} {r} {old} {now} n le lt a =
     let x = a.keys old refl refl in
     front_same now x.filled to n (omega arith) x.same ∙ front_same x.filled old at n le x.done.front
 
 -- a store below `to` in both lists, and one at or above it in the first
-set_below : (to : ℕ) (now filled : List ℕ) (k p v w : ℕ) → k < to → to ≤ p → take to now ≡ take to filled → take to (set (set now k v) p w) ≡ take to (set filled k v)
-set_below to now filled k p v w lt le e =
+set_below_lem : (to : ℕ) (now filled : List ℕ) (k p v w : ℕ) → k < to → to ≤ p → take to now ≡ take to filled → take to (set (set now k v) p w) ≡ take to (set filled k v)
+set_below_lem to now filled k p v w lt le e =
     take-set-le to (set now k v) p w le
     ∙ take-set-lt to now k v lt
     ∙ ap (λ (x : List ℕ). set x k v) e
@@ -79,91 +79,91 @@ set_below to now filled k p v w lt le e =
 module _ {g : Geometry} {ring : Ring} {h start at size to r shift k : ℕ} {old now : List ℕ} (ready : HashReady g ring h start at size to old)
     (a : Adding g ring h start at size to r shift k old now) (lt : r < g.layouts) where
   below : r < layouts g.settings
-  below = omega (arith, layouts-are g ready.made)
+  below = omega (arith, layouts_are g ready.made)
 
-  row-end : r * size + size ≤ layouts g.settings * size
-  row-end = omega (arith, mul-le-mul_right size below)
+  row_end : r * size + size ≤ layouts g.settings * size
+  row_end = omega (arith, mul-le-mul_right size below)
 
-  pub adding-place : (shift < 64) × (r < 64)
-  adding-place = (shift_small g ready.made r shift a.shifted below, omega (arith, (sized g ready.made).layouts-high))
+  pub adding_place : (shift < 64) × (r < 64)
+  adding_place = (shift_small g ready.made r shift a.shifted below, omega (arith, (sized g ready.made).layouts_high))
 
   -- the key's word is below the free words
-  pub adding-key : k < to
-  adding-key = omega (arith, a.next, row-end, ready.keys)
+  pub adding_key : k < to
+  adding_key = omega (arith, a.next, row_end, ready.keys)
 
   -- and the layout's word is one of the list's
-  pub adding-word : to + r < length now
-  adding-word = omega (arith, below, ready.free, a.done.len)
+  pub adding_word : to + r < length now
+  adding_word = omega (arith, below, ready.free, a.done.len)
 
-  pub adding-next : k + size < to + size
-  adding-next = omega (arith, a.next, row-end, ready.keys)
+  pub adding_next : k + size < to + size
+  adding_next = omega (arith, a.next, row_end, ready.keys)
 
-  pub adding-bits : shift + g.layout_bits < 128
-  adding-bits = omega (arith, adding-place.0, bits_are g ready.made, div-le_self 64 (layouts g.settings))
+  pub adding_bits : shift + g.layout_bits < 128
+  adding_bits = omega (arith, adding_place.0, bits_are g ready.made, div-le_self 64 (layouts g.settings))
 
   -- the key that the code makes, by the slice and the offset of h
-  pub adding-code : {slice offset o v : ℕ} → slice ≡ sliceOf g.settings h → offset ≡ offset_of g.settings h → o ≡ (offset / 2 ^ shift + r * 2 ^ g.scale) % g.l
-      → v ≡ packed g.stride (slice + 95 - start) o → v ≡ ringKey g.settings start r h
-  adding-code {slice} {offset} {o} {v} es eo ep ev =
-      key-code g ready.made h start r shift offset (slice + 95 - start) o v ready.begins a.shifted eo (ap (λ (x : ℕ). x + 95 - start) es) ep ev
+  pub adding_code : {slice offset o v : ℕ} → slice ≡ slice_of g.settings h → offset ≡ offset_of g.settings h → o ≡ (offset / 2 ^ shift + r * 2 ^ g.scale) % g.l
+      → v ≡ packed g.stride (slice + 95 - start) o → v ≡ ring_key g.settings start r h
+  adding_code {slice} {offset} {o} {v} es eo ep ev =
+      key_code g ready.made h start r shift offset (slice + 95 - start) o v ready.begins a.shifted eo (ap (λ (x : ℕ). x + 95 - start) es) ep ev
 
   -- what `add_row` asks for
-  pub adding-row : {v : ℕ} → v ≡ ringKey g.settings start r h → RowReady ring v start (to + r) (set now k v)
-  adding-row {v} e =
+  pub adding_row : {v : ℕ} → v ≡ ring_key g.settings start r h → RowReady ring v start (to + r) (set now k v)
+  adding_row {v} e =
       let n : length (set now k v) ≡ length now = length-set now k v in
       record {
         shape = ready.shape;
         short = ready.short;
-        above = omega (arith, ready.above, adding-key, adding-word, a.next);
+        above = omega (arith, ready.above, adding_key, adding_word, a.next);
         key = rw e (ready.key r);
         low = ready.low;
-        word = omega (arith, adding-word);
+        word = omega (arith, adding_word);
       }
 
-  module _ {v word : ℕ} (e : v ≡ ringKey g.settings start r h) (j : Added ring (set now k v) v start 0 (get_or (set now k v) (to + r) 0) word) where
+  module _ {v word : ℕ} (e : v ≡ ring_key g.settings start r h) (j : Added ring (set now k v) v start 0 (get_or (set now k v) (to + r) 0) word) where
     -- a free word that is not the layout's
-    other-same : (p : ℕ) → to ≤ p → p ≢ to + r → get_or (set (set now k v) (to + r) word) p 0 ≡ get_or now p 0
-    other-same p le ne = get_or-set_other (set now k v) (to + r) p word 0 ne ∙ get_or-set_other now k p v 0 (λ x. let z : ⊥ = omega (arith, adding-key) in z)
+    other_same : (p : ℕ) → to ≤ p → p ≢ to + r → get_or (set (set now k v) (to + r) word) p 0 ≡ get_or now p 0
+    other_same p le ne = get_or-set_other (set now k v) (to + r) p word 0 ne ∙ get_or-set_other now k p v 0 (λ x. let z : ⊥ = omega (arith, adding_key) in z)
 
     -- the layout's word as it was, and the ring
     word_same : get_or (set now k v) (to + r) 0 ≡ get_or old (to + r) 0
-    word_same = get_or-set_other now k (to + r) v 0 (λ x. let z : ⊥ = omega (arith, adding-key) in z) ∙ a.done.after (to + r) (omega arith)
+    word_same = get_or-set_other now k (to + r) v 0 (λ x. let z : ⊥ = omega (arith, adding_key) in z) ∙ a.done.after (to + r) (omega arith)
 
-    used-same : take ring.words (set now k v) ≡ take ring.words old
-    used-same =
+    used_same : take ring.words (set now k v) ≡ take ring.words old
+    used_same =
         take-set-le ring.words now k v (omega (arith, a.next, ready.above))
-        ∙ hash-front ring.words ready.above (omega (arith, row-end, ready.keys)) a.done
+        ∙ hash_front ring.words ready.above (omega (arith, row_end, ready.keys)) a.done
 
-    row_here : Added ring old (ringKey g.settings start r h) start 0 (get_or old (to + r) 0) word
-    row_here = subst (λ (d : ℕ). Added ring old d start 0 (get_or old (to + r) 0) word) e (added-same ready.shape old used-same (rw word_same at j))
+    row_here : Added ring old (ring_key g.settings start r h) start 0 (get_or old (to + r) 0) word
+    row_here = subst (λ (d : ℕ). Added ring old d start 0 (get_or old (to + r) 0) word) e (added_same ready.shape old used_same (rw word_same at j))
 
-    row-all : (q : ℕ) → q < r + 1 → Added ring old (ringKey g.settings start q h) start 0 (get_or old (to + q) 0) (get_or (set (set now k v) (to + r) word) (to + q) 0)
-    row-all q l =
+    row_all : (q : ℕ) → q < r + 1 → Added ring old (ring_key g.settings start q h) start 0 (get_or old (to + q) 0) (get_or (set (set now k v) (to + r) word) (to + q) 0)
+    row_all q l =
         ⊎_elim
-        (λ (x : q ≡ r). rw (x, get_or-set_same (set now k v) (to + r) word 0 (rw (length-set now k v) adding-word)) row_here)
-        (λ (x : q ≢ r). rw (other-same (to + q) (omega arith) (λ y. x (omega arith))) (a.done.rows q (omega arith)))
+        (λ (x : q ≡ r). rw (x, get_or-set_same (set now k v) (to + r) word 0 (rw (length-set now k v) adding_word)) row_here)
+        (λ (x : q ≢ r). rw (other_same (to + q) (omega arith) (λ y. x (omega arith))) (a.done.rows q (omega arith)))
         (same_or_not q r)
 
-    adding-stored : Adding g ring h start at size to (r + 1) (shift + g.layout_bits) (k + size) old (set (set now k v) (to + r) word)
-    adding-stored = record {
+    adding_stored : Adding g ring h start at size to (r + 1) (shift + g.layout_bits) (k + size) old (set (set now k v) (to + r) word)
+    adding_stored = record {
       le = omega (arith, below);
       shifted = omega (arith, a.shifted, bits_are g ready.made);
       next = omega (arith, a.next);
       done = record {
         keys = λ l el f.
             let x = a.done.keys l el f in
-            let more = layering-more {old = l} {now = x.filled} ready.some (omega (arith, ready.keys, ready.free, el)) (record { le = a.le; shifted = a.shifted; next = a.next; done = x.done }) below e (bits_are g ready.made) in
-            record { filled = set x.filled k v; done = more.done; same = set_below to now x.filled k (to + r) v word adding-key (omega arith) x.same };
+            let more = layering_more {old = l} {now = x.filled} ready.some (omega (arith, ready.keys, ready.free, el)) (record { le = a.le; shifted = a.shifted; next = a.next; done = x.done }) below e (bits_are g ready.made) in
+            record { filled = set x.filled k v; done = more.done; same = set_below_lem to now x.filled k (to + r) v word adding_key (omega arith) x.same };
         len = length-set (set now k v) (to + r) word ∙ length-set now k v ∙ a.done.len;
-        rows = row-all;
-        after = λ p l. other-same p (omega arith) (omega arith) ∙ a.done.after p (omega arith);
+        rows = row_all;
+        after = λ p l. other_same p (omega arith) (omega arith) ∙ a.done.after p (omega arith);
       };
     }
 
-  pub adding-more : {v : ℕ} {now' : List ℕ} → v ≡ ringKey g.settings start r h → RowAdded ring (set now k v) v start (to + r) now'
+  pub adding_more : {v : ℕ} {now' : List ℕ} → v ≡ ring_key g.settings start r h → RowAdded ring (set now k v) v start (to + r) now'
       → Adding g ring h start at size to (r + 1) (shift + g.layout_bits) (k + size) old now'
-  adding-more {v} {now'} e b =
-      subst (λ (x : List ℕ). Adding g ring h start at size to (r + 1) (shift + g.layout_bits) (k + size) old x) (sym b.stored) (adding-stored e b.added)
+  adding_more {v} {now'} e b =
+      subst (λ (x : List ℕ). Adding g ring h start at size to (r + 1) (shift + g.layout_bits) (k + size) old x) (sym b.stored) (adding_stored e b.added)
 
 -- ---- all hashes
 
@@ -172,11 +172,11 @@ pub record Gathering (s : Settings) (ring : Ring) (hashes : List ℕ) (start at 
   pub keys : (l : List ℕ) → length l ≡ length old → take to l ≡ take to old → Below to now (KeysTo s hashes start at i l)
   pub le : i ≤ length hashes
   pub len : length now ≡ length old
-  pub rows : BlockedAll ring old (λ (q : ℕ). ringKeys s start q hashes) start to 1 (layouts s) 0 old → BlockedAll ring old (λ (q : ℕ). ringKeys s start q hashes) start to 1 (layouts s) i now
+  pub rows : BlockedAll ring old (λ (q : ℕ). ring_keys s start q hashes) start to 1 (layouts s) 0 old → BlockedAll ring old (λ (q : ℕ). ring_keys s start q hashes) start to 1 (layouts s) i now
   pub after : (p : ℕ) → to + layouts s ≤ p → get_or now p 0 ≡ get_or old p 0
 
-pub gathering-none : (s : Settings) (ring : Ring) (hashes : List ℕ) (start at to : ℕ) (old : List ℕ) → Gathering s ring hashes start at to 0 old old
-gathering-none s ring hashes start at to old = record {
+pub gathering_none : (s : Settings) (ring : Ring) (hashes : List ℕ) (start at to : ℕ) (old : List ℕ) → Gathering s ring hashes start at to 0 old old
+gathering_none s ring hashes start at to old = record {
   keys = λ l e f. record { filled = l; done = keys_none s hashes start at l; same = sym f };
   le = omega arith;
   len = refl;
@@ -185,20 +185,20 @@ gathering-none s ring hashes start at to old = record {
 }
 
 -- what is below the keys stays
-gathering-front : {s : Settings} {ring : Ring} {hashes : List ℕ} {start at to i : ℕ} {old now : List ℕ} (n : ℕ) → n ≤ at → at ≤ to → Gathering s ring hashes start at to i old now
+gathering_front : {s : Settings} {ring : Ring} {hashes : List ℕ} {start at to i : ℕ} {old now : List ℕ} (n : ℕ) → n ≤ at → at ≤ to → Gathering s ring hashes start at to i old now
     → take n now ≡ take n old
-gathering-front {s} {ring} {hashes} {start} {at} {to} {i} {old} {now} n le lt a =
+gathering_front {s} {ring} {hashes} {start} {at} {to} {i} {old} {now} n le lt a =
     let x = a.keys old refl refl in
     front_same now x.filled to n (omega arith) x.same ∙ front_same x.filled old at n le x.done.front
 
-pub gathering-more : {s : Settings} {ring : Ring} {hashes : List ℕ} {start at to i : ℕ} {old mid now : List ℕ} → Shape ring → ring.words ≤ at → at ≤ to
+pub gathering_more : {s : Settings} {ring : Ring} {hashes : List ℕ} {start at to i : ℕ} {old mid now : List ℕ} → Shape ring → ring.words ≤ at → at ≤ to
     → Gathering s ring hashes start at to i old mid → i < length hashes → HashGathered s ring (get_or hashes i 0) start (at + i) (length hashes) to (layouts s) mid now
     → Gathering s ring hashes start at to (i + 1) old now
-gathering-more {s} {ring} {hashes} {start} {at} {to} {i} {old} {mid} {now} shape above order a lt b = record {
+gathering_more {s} {ring} {hashes} {start} {at} {to} {i} {old} {mid} {now} shape above order a lt b = record {
   keys = λ l e f.
       let x = a.keys l e f in
       let y = b.keys x.filled (x.done.len ∙ e ∙ sym a.len) (sym x.same) in
-      record { filled = y.filled; done = keys-more x.done lt y.done; same = y.same };
+      record { filled = y.filled; done = keys_more x.done lt y.done; same = y.same };
   le = omega arith;
   len = b.len ∙ a.len;
   rows = λ none. record { at = λ q k lq lk. word q k lk ((a.rows none).at q k lq lk) (b.rows q lq) };
@@ -206,32 +206,32 @@ gathering-more {s} {ring} {hashes} {start} {at} {to} {i} {old} {mid} {now} shape
 }
   where
     -- a layout's only word is word 0 of it
-    word : (q k : ℕ) → k < 1 → Blocked ring old (ringKeys s start q hashes) start q k i (get_or mid (to + q * 1 + k) 0)
-        → Added ring mid (ringKey s start q (get_or hashes i 0)) start 0 (get_or mid (to + q) 0) (get_or now (to + q) 0)
-        → Blocked ring old (ringKeys s start q hashes) start q k (i + 1) (get_or now (to + q * 1 + k) 0)
+    word : (q k : ℕ) → k < 1 → Blocked ring old (ring_keys s start q hashes) start q k i (get_or mid (to + q * 1 + k) 0)
+        → Added ring mid (ring_key s start q (get_or hashes i 0)) start 0 (get_or mid (to + q) 0) (get_or now (to + q) 0)
+        → Blocked ring old (ring_keys s start q hashes) start q k (i + 1) (get_or now (to + q * 1 + k) 0)
     word q k lk x y =
         let z : k ≡ 0 = omega arith in
         let e : to + q * 1 + 0 ≡ to + q = omega arith in
-        rw (z, e) (blocked-added (rw (z, e) at x) (rw (map_at (ringKey s start q) hashes i lt) (added-same shape old (gathering-front ring.words above order a) y)))
+        rw (z, e) (blocked_added (rw (z, e) at x) (rw (map_at (ring_key s start q) hashes i lt) (added_same shape old (gathering_front ring.words above order a) y)))
 
 -- ---- what the calls ask for
 
 module _ {g : Geometry} {ring : Ring} {hashes : List ℕ} {start at to : ℕ} {work : List ℕ} (ready : Ready g ring hashes start at to work) where
-  pub ready-shape : Shape ring
-  ready-shape = rw ready.level (shape-level g.settings ready.good)
+  pub ready_shape : Shape ring
+  ready_shape = rw ready.level (shape_level g.settings ready.good)
 
-  pub ready-order : at ≤ to
-  ready-order = omega (arith, ready.keys)
+  pub ready_order : at ≤ to
+  ready_order = omega (arith, ready.keys)
 
-  pub ready-hash : {i : ℕ} {now : List ℕ} → i < length hashes → length hashes < 2 ^ 62 → length now ≡ length work → HashReady g ring (get_or hashes i 0) start (at + i) (length hashes) to now
-  ready-hash {i} {now} lt few len =
+  pub ready_hash : {i : ℕ} {now : List ℕ} → i < length hashes → length hashes < 2 ^ 62 → length now ≡ length work → HashReady g ring (get_or hashes i 0) start (at + i) (length hashes) to now
+  ready_hash {i} {now} lt few len =
       let home = ready.bucket.homes i lt in
       record {
         made = ready.made;
-        shape = ready-shape;
+        shape = ready_shape;
         short = ready.short;
-        begins = start-le g.settings ready.bucket.b start (get_or hashes i 0) home;
-        key = key-ok g.settings ready.good ready.bucket.b start (get_or hashes i 0) home;
+        begins = start_le g.settings ready.bucket.b start (get_or hashes i 0) home;
+        key = key_ok g.settings ready.good ready.bucket.b start (get_or hashes i 0) home;
         some = omega arith;
         few = few;
         above = omega (arith, ready.above);
@@ -245,11 +245,11 @@ module _ {g : Geometry} {ring : Ring} {hashes : List ℕ} {start at to : ℕ} {w
       → FinishedFree ring now to g.layouts total after → Gathered g.settings ring hashes start at to 1 work total after
   gathered {i} {total} {old} {now} {after} begun a h finished =
       let x = a.keys work (sym begun.within.len) (sym begun.within.front) in
-      let keys = keys-all x.done h in
-      record { filled = x.filled; keys = keys; free = filled-all ready-shape x.filled at all done (used x.filled keys) (within x.filled keys x.same) (omega (arith, keys.len, ready.keys, ready.free)) (λ q lq. sym (filled-part room keys q lq)) }
+      let keys = keys_all x.done h in
+      record { filled = x.filled; keys = keys; free = filled_all ready_shape x.filled at all done (used x.filled keys) (within x.filled keys x.same) (omega (arith, keys.len, ready.keys, ready.free)) (λ q lq. sym (filled_part room keys q lq)) }
     where
       words : g.layouts ≡ layouts g.settings * 1
-      words = omega (arith, layouts-are g ready.made)
+      words = omega (arith, layouts_are g ready.made)
 
       room : at + layouts g.settings * length hashes ≤ length work
       room = omega (arith, ready.keys, ready.free)
@@ -257,14 +257,14 @@ module _ {g : Geometry} {ring : Ring} {hashes : List ℕ} {start at to : ℕ} {w
       done : FinishedFree ring now to (layouts g.settings * 1) total after
       done = rw words at finished
 
-      all : BlockedAll ring old (λ (q : ℕ). ringKeys g.settings start q hashes) start to 1 (layouts g.settings) (length hashes) now
+      all : BlockedAll ring old (λ (q : ℕ). ring_keys g.settings start q hashes) start to 1 (layouts g.settings) (length hashes) now
       all =
           let e : i ≡ length hashes = omega (arith, a.le) in
-          rw e at (a.rows (begun-blocked old (λ (q : ℕ). ringKeys g.settings start q hashes) start (rw (layouts-are g ready.made) at begun)))
+          rw e at (a.rows (begun_blocked old (λ (q : ℕ). ring_keys g.settings start q hashes) start (rw (layouts_are g ready.made) at begun)))
 
       used : (filled : List ℕ) → KeysFilled g.settings hashes start at work filled → take ring.words old ≡ take ring.words filled
       used filled keys =
-          front_same old work to ring.words (omega (arith, ready.above, ready-order)) begun.within.front
+          front_same old work to ring.words (omega (arith, ready.above, ready_order)) begun.within.front
           ∙ sym (front_same filled work at ring.words ready.above keys.front)
 
       within : (filled : List ℕ) → KeysFilled g.settings hashes start at work filled → take to now ≡ take to filled → Within filled to (layouts g.settings * 1) now

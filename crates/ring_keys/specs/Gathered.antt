@@ -2,7 +2,7 @@
 -- that two passes would write, first the ring keys and then the free words of each layout. Assumes nothing.
 use Rattle.std.specs.Prelude.{◌≡◌, List, ℕ, ◌+◌, ◌*◌, ◌^◌, ◌≤◌, ◌<◌, length, get_or, set, take}
 use Rattle.rules.specs.declared.Settings.{Settings}
-use Rattle.rules.specs.Geometry.{layouts, sliceOf}
+use Rattle.rules.specs.Geometry.{layouts, slice_of}
 use Rattle.rules.specs.Good.{Good}
 use Rattle.geometry.specs.declared.shape.Geometry.{Geometry}
 use Rattle.geometry.specs.Shape.{Made}
@@ -11,8 +11,8 @@ use Rattle.rings.specs.Ring.{Shape}
 use Rattle.rings.specs.Keys.{Key}
 use Rattle.rings.specs.Free.{FilledTo}
 use Rattle.rings.specs.Blocked.{Added}
-use Rattle.rings.specs.Level.{levelRing}
-use Rattle.ring_keys.specs.RingKey.{ringKey, Bucket, LayoutsFilled, KeysFilled}
+use Rattle.rings.specs.Level.{level_ring}
+use Rattle.ring_keys.specs.RingKey.{ring_key, Bucket, LayoutsFilled, KeysFilled}
 
 -- what is asked for one key: the ring is the front of the list, and p is one of its words
 pub record RowReady (ring : Ring) (d start p : ℕ) (work : List ℕ) : Type 0 where
@@ -40,8 +40,8 @@ pub record HashReady (g : Geometry) (ring : Ring) (h start at size to : ℕ) (wo
   pub made : Made g
   pub shape : Shape ring
   pub short : ring.n ≤ 64
-  pub begins : start ≤ sliceOf g.settings h
-  pub key : (r : ℕ) → Key start (ringKey g.settings start r h)
+  pub begins : start ≤ slice_of g.settings h
+  pub key : (r : ℕ) → Key start (ring_key g.settings start r h)
   pub some : 1 ≤ size
   pub few : size < 2 ^ 62
   pub above : ring.words ≤ at
@@ -54,14 +54,14 @@ pub record HashReady (g : Geometry) (ring : Ring) (h start at size to : ℕ) (wo
 pub record HashGathered (s : Settings) (ring : Ring) (h start at size to r : ℕ) (old now : List ℕ) : Type 0 where
   pub keys : (l : List ℕ) → length l ≡ length old → take to l ≡ take to old → Below to now (LayoutsFilled s h start at size r l)
   pub len : length now ≡ length old
-  pub rows : (q : ℕ) → q < r → Added ring old (ringKey s start q h) start 0 (get_or old (to + q) 0) (get_or now (to + q) 0)
+  pub rows : (q : ℕ) → q < r → Added ring old (ring_key s start q h) start 0 (get_or old (to + q) 0) (get_or now (to + q) 0)
   pub after : (p : ℕ) → to + r ≤ p → get_or now p 0 ≡ get_or old p 0
 
 -- what is asked for a bucket: the ring, the keys and the free words lie one above the other
 pub record Ready (g : Geometry) (ring : Ring) (hashes : List ℕ) (start at to : ℕ) (work : List ℕ) : Type 0 where
   pub made : Made g
   pub good : Good g.settings
-  pub level : ring ≡ levelRing g.settings
+  pub level : ring ≡ level_ring g.settings
   pub short : ring.n ≤ 64
   pub bucket : Bucket g.settings start hashes
   pub above : ring.words ≤ at

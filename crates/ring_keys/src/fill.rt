@@ -29,7 +29,7 @@ pub fn pack(t: u64, base: u64, o: u64) -> u64
 // Writes the ring keys of hash h: layout r's to work[at + r size].
 fn fill_layouts(g: Geometry, h: u64, start: usize, work: &mut [u64], at: usize, size: usize)
     requires made { Made g }
-    requires start_bound { start ≤ G.sliceOf g.settings h }
+    requires start_bound { start ≤ G.slice_of g.settings h }
     requires le_size { (1 ≤ size) × (size < 2 ^ 62) × (at + G.layouts g.settings * size < length work.old + size) }
     ensures { LayoutsFilled g.settings h start at size (G.layouts g.settings) work.old work.new }
 {

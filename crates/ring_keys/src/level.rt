@@ -1,7 +1,7 @@
 // The ring of a level.
 ghost use Rattle.std.specs.Prelude.{◌≡◌};
 ghost use Rattle.geometry.specs.Shape.{Made};
-ghost use Rattle.rings.specs.Level.{levelRing};
+ghost use Rattle.rings.specs.Level.{level_ring};
 
 use geometry::shape::Geometry;
 use rings::Ring;
@@ -9,7 +9,7 @@ use rings::Ring;
 // The numbers of the used ring, from a level's geometry.
 pub fn ring_of(g: Geometry) -> Ring
     requires { Made g }
-    ensures { result ≡ levelRing g.settings }
+    ensures { result ≡ level_ring g.settings }
 {
     Ring {
         t: g.stride as usize,

@@ -3,9 +3,9 @@
 use Rattle.std.specs.Prelude.{◌≡◌, List, ℕ, ◌+◌, ◌-◌, ◌*◌, ◌^◌, ◌≤◌, ◌<◌, max, length, get_or, take, drop}
 use Rattle.std.specs.Int.Bits.{bit_and}
 use Rattle.words.specs.Bit.{bit}
-use Rattle.words.specs.Map.{onesTo}
+use Rattle.words.specs.Map.{ones_to}
 use Rattle.rings.specs.declared.Ring.{Ring}
-use Rattle.rings.specs.Ring.{ringBit}
+use Rattle.rings.specs.Ring.{ring_bit}
 use Rattle.rings.specs.Keys.{slot_at}
 use Rattle.rings.specs.Free.{Bar, Blocked}
 
@@ -39,19 +39,19 @@ pub record Flipped (g : Ring) (x f : ℕ) : Type 0 where
 pub record TurnedOver (l : List ℕ) (to words own total : ℕ) (now : List ℕ) : Type 0 where
   pub within : Within l to words now
   pub over : (k : ℕ) → k < words → get_or now (to + k) 0 ≡ bit_and (2 ^ 64 - 1 - get_or l (to + k) 0) own
-  pub sum : total ≡ onesTo (drop to now) words
+  pub sum : total ≡ ones_to (drop to now) words
   pub most : total ≤ 64 * words
 
 -- the same for the bits below n
 pub record FinishedFree (g : Ring) (l : List ℕ) (to words total : ℕ) (now : List ℕ) : Type 0 where
   pub within : Within l to words now
   pub flipped : (k : ℕ) → k < words → Flipped g (get_or l (to + k) 0) (get_or now (to + k) 0)
-  pub sum : total ≡ onesTo (drop to now) words
+  pub sum : total ≡ ones_to (drop to now) words
   pub most : total ≤ 64 * words
 
 -- bit j of z: bit j of x, or whether key d's slot at rotation 64 w + j is used
 pub record Added (g : Ring) (used : List ℕ) (d start w x z : ℕ) : Type 0 where
-  pub at : (j : ℕ) → j < 64 → j < g.n → bit z j ≡ max (bit x j) (ringBit g.t g.words used (slot_at g start d (64 * w + j)))
+  pub at : (j : ℕ) → j < 64 → j < g.n → bit z j ≡ max (bit x j) (ring_bit g.t g.words used (slot_at g start d (64 * w + j)))
 
 -- the first i keys of each layout are in
 pub record BlockedAll (g : Ring) (used : List ℕ) (keys_of : ℕ → List ℕ) (start to count layouts i : ℕ) (now : List ℕ) : Type 0 where

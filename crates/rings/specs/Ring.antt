@@ -10,8 +10,8 @@ unfoldable pub bit_of : (t q : ℕ) → ℕ
 bit_of t q = q / 2 ^ t % 64
 
 -- whether the ring has slot q as used: 0 or 1
-unfoldable pub ringBit : (t words : ℕ) → List ℕ → ℕ → ℕ
-ringBit t words used q = bit (get_or used (word_of t words q) 0) (bit_of t q)
+unfoldable pub ring_bit : (t words : ℕ) → List ℕ → ℕ → ℕ
+ring_bit t words used q = bit (get_or used (word_of t words q) 0) (bit_of t q)
 
 -- what the functions of the ring ask of its numbers: the words and n are powers of two, and 2^t divides the words
 pub record Shape (g : Ring) : Type 0 where
@@ -29,5 +29,5 @@ pub record Word (words w r : ℕ) : Type 0 where
   pub lt : r < words
 
 -- a ring by its numbers
-abbrev pub ringOf : (t words n rotations : ℕ) → Ring
-ringOf t words n rotations = record { t = t; words = words; n = n; rotations = rotations }
+abbrev pub ring_of : (t words n rotations : ℕ) → Ring
+ring_of t words n rotations = record { t = t; words = words; n = n; rotations = rotations }

@@ -3,7 +3,7 @@
 use Rattle.std.specs.Prelude.{◌≡◌, List, ℕ, ◌+◌, ◌*◌, ◌%◌, ◌^◌, ◌<◌, max, get_or}
 use Rattle.words.specs.Bit.{bit}
 use Rattle.rings.specs.declared.Ring.{Ring}
-use Rattle.rings.specs.Ring.{word_of, bit_of, ringBit}
+use Rattle.rings.specs.Ring.{word_of, bit_of, ring_bit}
 use Rattle.rings.specs.Rows.{Row}
 use Rattle.rings.specs.Keys.{Key}
 use Rattle.rings.specs.Blocked.{Within, Added}
@@ -16,7 +16,7 @@ pub record RingWord (g : Ring) (used : List ℕ) (base s k r : ℕ) : Type 0 whe
 pub record RingAdded (g : Ring) (l : List ℕ) (first x to count : ℕ) (now : List ℕ) : Type 0 where
   pub within : Within l to count now
   pub bits : (i j : ℕ) → i < count → j < 64
-      → bit (get_or now (to + i) 0) j ≡ max (bit (get_or l (to + i) 0) j) (ringBit g.t g.words l (first + (x + 64 * i + j) % g.n * 2 ^ g.t))
+      → bit (get_or now (to + i) 0) j ≡ max (bit (get_or l (to + i) 0) j) (ring_bit g.t g.words l (first + (x + 64 * i + j) % g.n * 2 ^ g.t))
 
 -- key d's slots are added to the count words of a layout from `to` on
 pub record KeyAdded (g : Ring) (l : List ℕ) (d start to count : ℕ) (now : List ℕ) : Type 0 where

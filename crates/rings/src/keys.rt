@@ -1,7 +1,7 @@
 // What a ring key has to say: its place in its ring, its entry of the table and its slot at a rotation.
 ghost use Rattle.std.specs.Prelude.{◌≡◌, ◌+◌, ◌*◌, ◌/◌, ◌^◌, ◌<◌, ◌≤◌, length};
 ghost use Rattle.rings.specs.Ring.{Shape, Word};
-ghost use Rattle.rings.specs.Keys.{placeAt, entry_at, slot_at, Key, KeyRow};
+ghost use Rattle.rings.specs.Keys.{place_at, entry_at, slot_at, Key, KeyRow};
 
 use crate::Ring;
 use crate::rows::{ring64, row64};
@@ -10,7 +10,7 @@ use crate::rows::{ring64, row64};
 pub fn place_of(g: Ring, d: u64, j: usize) -> usize
     requires shape { Shape g }
     requires j_bound { j < 65536 }
-    ensures { Word g.n (placeAt g d j) result }
+    ensures { Word g.n (place_at g d j) result }
 {
     (((d % 0x1_0000_0000) as usize >> g.t) + j) & (g.n - 1)
 }

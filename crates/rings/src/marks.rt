@@ -1,7 +1,7 @@
 // One slot of the ring marked and unmarked.
 ghost use Rattle.std.specs.Prelude.{◌≡◌, ◌≤◌, length};
 ghost use Rattle.rings.specs.Ring.{Shape};
-ghost use Rattle.rings.specs.Marks.{ringUnmarked, Took};
+ghost use Rattle.rings.specs.Marks.{ring_unmarked, Took};
 
 use crate::Ring;
 use crate::slots::{bit_of, word_of};
@@ -10,7 +10,7 @@ use crate::slots::{bit_of, word_of};
 pub fn unmark(g: Ring, work: &mut [u64], p: usize)
     requires shape { Shape g }
     requires words_in_bounds { g.words ≤ length work.old }
-    ensures { work.new ≡ ringUnmarked g.t g.words work.old p }
+    ensures { work.new ≡ ring_unmarked g.t g.words work.old p }
 {
     let w = word_of(g, p);
     let b = bit_of(g, p);

@@ -3,7 +3,7 @@ ghost use Rattle.std.specs.Prelude.{◌≡◌, ◌+◌, ◌^◌, ◌<◌, ◌≤
 ghost use Rattle.rings.specs.Ring.{Shape};
 ghost use Rattle.rings.specs.Keys.{Keys};
 ghost use Rattle.rings.specs.Parts.{part};
-ghost use Rattle.rings.specs.Place.{unmarkedTo, MarkedUpTo, Placed, Fitted, mapTo, InMap};
+ghost use Rattle.rings.specs.Place.{unmarked_to, MarkedUpTo, Placed, Fitted, map_to, InMap};
 
 use crate::Ring;
 use crate::keys::slot_of;
@@ -42,7 +42,7 @@ fn unmark_keys(
     requires words_le_at { (g.words ≤ at) × (at + size ≤ length work.old) × (count ≤ size) }
     requires keys { Keys (part work.old at size) start }
     requires start_bound { (start < 2 ^ 62) × (j < 65536) }
-    ensures { work.new ≡ unmarkedTo g work.old (part work.old at size) start j count }
+    ensures { work.new ≡ unmarked_to g work.old (part work.old at size) start j count }
 {
     let mut i = count;
     while 0 < i {
@@ -90,7 +90,7 @@ pub fn mark_bitmap(g: Ring, keys: &[u64], start: usize, j: usize, bitmap: &mut [
     requires keys { Keys keys.now start }
     requires start_bound { (start < 2 ^ 62) × (j < 65536) }
     requires in_map { InMap g keys.now start j (length bitmap.old) }
-    ensures { bitmap.new ≡ mapTo g bitmap.old keys.now start j (length keys.now) }
+    ensures { bitmap.new ≡ map_to g bitmap.old keys.now start j (length keys.now) }
 {
     let mut i = 0;
     while i < keys.len() {

@@ -16,7 +16,7 @@ use Rattle.rules.specs.declared.Checked.{Checked}
 use Rattle.rules.specs.declared.Checked.TheVariants as Check
 use Rattle.rules.specs.declared.Counted.{Counted}
 use Rattle.rules.specs.declared.Counted.TheVariants as Count
-use Rattle.rules.specs.Answers.{Said, Answer, Refusal, named_by, countValues, saidOutcome, saidSweep, saidLooked, saidListed, saidChecked, saidCounted}
+use Rattle.rules.specs.Answers.{Said, Answer, Refusal, named_by, count_values, said_outcome, said_sweep, said_looked, said_listed, said_checked, said_counted}
 
 -- an answer that can be got back from what it says
 undone : {A : Type 0} (said : A → Said) (back : Said → A) → ((x : A) → back (said x) ≡ x) → (x y : A) → said x ≡ said y → x ≡ y
@@ -24,83 +24,83 @@ undone said back h x y e = sym (h x) ∙ ap back e ∙ h y
 
 -- ---- lookup, holes, settings, bucket count
 
-lookedBack : Said → Looked
-lookedBack (Answer []) = Look.Bumped
-lookedBack (Answer (x ∷ xs)) = Look.At x
-lookedBack (Refusal n xs) = Look.Refused n
+looked_back : Said → Looked
+looked_back (Answer []) = Look.Bumped
+looked_back (Answer (x ∷ xs)) = Look.At x
+looked_back (Refusal n xs) = Look.Refused n
 
-looked-back : (x : Looked) → lookedBack (saidLooked x) ≡ x
-unfolding saidLooked lookedBack
-looked-back Look.Bumped = refl
-looked-back (Look.At x) = refl
-looked-back (Look.Refused n) = refl
+looked_back_lem : (x : Looked) → looked_back (said_looked x) ≡ x
+unfolding said_looked looked_back
+looked_back_lem Look.Bumped = refl
+looked_back_lem (Look.At x) = refl
+looked_back_lem (Look.Refused n) = refl
 
-pub said-looked : (x y : Looked) → saidLooked x ≡ saidLooked y → x ≡ y
-said-looked = undone saidLooked lookedBack looked-back
+pub said_looked_lem : (x y : Looked) → said_looked x ≡ said_looked y → x ≡ y
+said_looked_lem = undone said_looked looked_back looked_back_lem
 
-listedBack : Said → Listed
-listedBack (Answer []) = Hole.Holes 0
-listedBack (Answer (x ∷ xs)) = Hole.Holes x
-listedBack (Refusal n xs) = Hole.Refused n
+listed_back : Said → Listed
+listed_back (Answer []) = Hole.Holes 0
+listed_back (Answer (x ∷ xs)) = Hole.Holes x
+listed_back (Refusal n xs) = Hole.Refused n
 
-listed_back : (x : Listed) → listedBack (saidListed x) ≡ x
-unfolding saidListed listedBack
-listed_back (Hole.Holes n) = refl
-listed_back (Hole.Refused n) = refl
+listed_back_lem : (x : Listed) → listed_back (said_listed x) ≡ x
+unfolding said_listed listed_back
+listed_back_lem (Hole.Holes n) = refl
+listed_back_lem (Hole.Refused n) = refl
 
-pub said-listed : (x y : Listed) → saidListed x ≡ saidListed y → x ≡ y
-said-listed = undone saidListed listedBack listed_back
+pub said_listed_lem : (x y : Listed) → said_listed x ≡ said_listed y → x ≡ y
+said_listed_lem = undone said_listed listed_back listed_back_lem
 
-checkedBack : Said → Checked
-checkedBack (Answer xs) = Check.Fine
-checkedBack (Refusal n xs) = Check.Refused n
+checked_back : Said → Checked
+checked_back (Answer xs) = Check.Fine
+checked_back (Refusal n xs) = Check.Refused n
 
-checked-back : (x : Checked) → checkedBack (saidChecked x) ≡ x
-unfolding saidChecked checkedBack
-checked-back Check.Fine = refl
-checked-back (Check.Refused n) = refl
+checked_back_lem : (x : Checked) → checked_back (said_checked x) ≡ x
+unfolding said_checked checked_back
+checked_back_lem Check.Fine = refl
+checked_back_lem (Check.Refused n) = refl
 
-pub said-checked : (x y : Checked) → saidChecked x ≡ saidChecked y → x ≡ y
-said-checked = undone saidChecked checkedBack checked-back
+pub said_checked_lem : (x y : Checked) → said_checked x ≡ said_checked y → x ≡ y
+said_checked_lem = undone said_checked checked_back checked_back_lem
 
-countedBack : Said → Counted
-countedBack (Answer []) = Count.Buckets 0
-countedBack (Answer (x ∷ xs)) = Count.Buckets x
-countedBack (Refusal n xs) = Count.Refused n
+counted_back : Said → Counted
+counted_back (Answer []) = Count.Buckets 0
+counted_back (Answer (x ∷ xs)) = Count.Buckets x
+counted_back (Refusal n xs) = Count.Refused n
 
-counted_back : (x : Counted) → countedBack (saidCounted x) ≡ x
-unfolding saidCounted countedBack
-counted_back (Count.Buckets n) = refl
-counted_back (Count.Refused n) = refl
+counted_back_lem : (x : Counted) → counted_back (said_counted x) ≡ x
+unfolding said_counted counted_back
+counted_back_lem (Count.Buckets n) = refl
+counted_back_lem (Count.Refused n) = refl
 
-pub said-counted : (x y : Counted) → saidCounted x ≡ saidCounted y → x ≡ y
-said-counted = undone saidCounted countedBack counted_back
+pub said_counted_lem : (x y : Counted) → said_counted x ≡ said_counted y → x ≡ y
+said_counted_lem = undone said_counted counted_back counted_back_lem
 
 -- ---- the record of a sweep
 
-namedBack : List ℕ → Named
-namedBack [] = NoBucket
-namedBack (b ∷ bs) = Bucket b
+named_back : List ℕ → Named
+named_back [] = NoBucket
+named_back (b ∷ bs) = Bucket b
 
-outcomeBack : Said → Outcome
-outcomeBack (Answer xs) = Ended.Done (record { placed = get_or xs 0 0; bumped = get_or xs 1 0; zero = get_or xs 2 0 })
-outcomeBack (Refusal n xs) = Ended.Refused n (namedBack xs)
+outcome_back : Said → Outcome
+outcome_back (Answer xs) = Ended.Done (record { placed = get_or xs 0 0; bumped = get_or xs 1 0; zero = get_or xs 2 0 })
+outcome_back (Refusal n xs) = Ended.Refused n (named_back xs)
 
-outcome-back : (x : Outcome) → outcomeBack (saidOutcome x) ≡ x
-unfolding saidOutcome outcomeBack countValues named_by namedBack
-outcome-back (Ended.Done c) = refl
-outcome-back (Ended.Refused n (Bucket b)) = refl
-outcome-back (Ended.Refused n NoBucket) = refl
+outcome_back_lem : (x : Outcome) → outcome_back (said_outcome x) ≡ x
+unfolding said_outcome outcome_back count_values named_by named_back
+outcome_back_lem (Ended.Done c) = refl
+outcome_back_lem (Ended.Refused n (Bucket b)) = refl
+outcome_back_lem (Ended.Refused n NoBucket) = refl
 
-pub said-outcome : (x y : Outcome) → saidOutcome x ≡ saidOutcome y → x ≡ y
-said-outcome = undone saidOutcome outcomeBack outcome-back
+pub said_outcome_lem : (x y : Outcome) → said_outcome x ≡ said_outcome y → x ≡ y
+said_outcome_lem = undone said_outcome outcome_back outcome_back_lem
 
-recordBack : Said → SweepRecord
-recordBack s = record { outcome = outcomeBack s }
+record_back : Said → SweepRecord
+record_back s = record { outcome = outcome_back s }
 
-record-back : (x : SweepRecord) → recordBack (saidSweep x) ≡ x
-unfolding saidSweep recordBack
-record-back x = ap (λ (o : Outcome). record { outcome = o }) (outcome-back x.outcome)
+record_back_lem : (x : SweepRecord) → record_back (said_sweep x) ≡ x
+unfolding said_sweep record_back
+record_back_lem x = ap (λ (o : Outcome). record { outcome = o }) (outcome_back_lem x.outcome)
 
-pub said-sweep : (x y : SweepRecord) → saidSweep x ≡ saidSweep y → x ≡ y
-said-sweep = undone saidSweep recordBack record-back
+pub said_sweep_lem : (x y : SweepRecord) → said_sweep x ≡ said_sweep y → x ≡ y
+said_sweep_lem = undone said_sweep record_back record_back_lem

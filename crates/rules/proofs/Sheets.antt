@@ -7,19 +7,19 @@ use lib.IntN as Int
 use lib.IntN.{ℤ}
 use lib.ListN.{length, replicate}
 use Rattle.integers.specs.Ints.{up, dn, held}
-use Rattle.integers.specs.Power.{leastFrom, logUp, leastPower}
+use Rattle.integers.specs.Power.{least_from, log_up, least_power}
 use Rattle.words.specs.Bit.{bit}
 use Rattle.words.specs.Map.{slot}
 use Rattle.rules.specs.declared.Settings.{Settings}
 use Rattle.rules.specs.Lists.{indicator, every}
-use Rattle.rules.specs.Geometry.{sliceLen, logLen, slices, scale, layouts, bucketOf, sliceOf, offset_of, quotient, first, layoutOffset, position, stride, ringLen, rotations, perBucket, ringSlots, entries, workWords}
-use Rattle.rules.specs.Order.{Input, byLowBits, size_of, keys_of, weightEntry, weight, priority, goesFirst, nonempty, turn, turns, order}
-use Rattle.rules.specs.Chunks.{chunkGap, chunkCount, bound, shortChunk, lastChunk, gapChunk, rangesOf, ranges, order_in, ordersOf, inOne}
-use Rattle.rules.specs.Seed.{isFirst, barred, unbarred, candidates, seedOf, slots_of, fits, price, cost, cheaper, candidateFits, fitting, seedOfLeast, seedFor}
-use Rattle.rules.specs.Sweep.{takes, given, marks, seedIn, firstZero, word_of, bitmapOf, finalSeeds, finalMarks, finalBitmap, failsAt}
-use Rattle.rules.specs.Holes.{unmarked, holesOf, slot_by, lookedUp, foundSlots}
-use Rattle.rules.specs.Numbers.{Lent, first_of, line1, line2, line3, line4, line5, line6, line7, linesTo6, linesTo7, moderate, stepUp, rising, largestOf, largest, line8, line9, line10, line11, line12, line13, line20, smallBucket, isHome, allHome, sweepLines}
-use Rattle.rules.specs.Answers.{Said, Answer, Refusal, countValues, unless, keptUnless, placedKeys, bumpedKeys, zeroBucket, countsOf, ranAnswer, ranBuffer, sweepTurns, stopsAt, sweepNumber, sweepAnswer, sweepSeeds, sweepBitmap, workNeeded}
+use Rattle.rules.specs.Geometry.{slice_len, log_len, slices, scale, layouts, bucket_of, slice_of, offset_of, quotient, first, layout_offset, position, stride, ring_len, rotations, per_bucket, ring_slots, entries, work_words}
+use Rattle.rules.specs.Order.{Input, by_low_bits, size_of, keys_of, weight_entry, weight, priority, goes_first, nonempty, turn, turns, order}
+use Rattle.rules.specs.Chunks.{chunk_gap, chunk_count, bound, short_chunk, last_chunk, gap_chunk, ranges_of, ranges, order_in, orders_of, in_one}
+use Rattle.rules.specs.Seed.{is_first, barred, unbarred, candidates, seed_of, slots_of, fits, price, cost, cheaper, candidate_fits, fitting, seed_of_least, seed_for}
+use Rattle.rules.specs.Sweep.{takes, given, marks, seed_in, first_zero, word_of, bitmap_of, final_seeds, final_marks, final_bitmap, fails_at}
+use Rattle.rules.specs.Holes.{unmarked, holes_of, slot_by, looked_up, found_slots}
+use Rattle.rules.specs.Numbers.{Lent, first_of, line1, line2, line3, line4, line5, line6, line7, lines_to6, lines_to7, moderate, step_up, rising, largest_of, largest, line8, line9, line10, line11, line12, line13, line20, small_bucket, is_home, all_home, sweep_lines}
+use Rattle.rules.specs.Answers.{Said, Answer, Refusal, count_values, unless, kept_unless, placed_keys, bumped_keys, zero_bucket, counts_of, ran_answer, ran_buffer, sweep_turns, stops_at, sweep_number, sweep_answer, sweep_seeds, sweep_bitmap, work_needed}
 
 -- the first entries of the house table
 unfoldable pub table : List ℕ
@@ -45,40 +45,40 @@ same [] (y ∷ ys) = false
 same (x ∷ xs) [] = false
 same (x ∷ xs) (y ∷ ys) = eqb x y && same xs ys
 
-unfoldable pub sameSaid : Said → Said → Bool
+unfoldable pub same_said : Said → Said → Bool
 unfolding same
-sameSaid (Answer xs) (Answer ys) = same xs ys
-sameSaid (Answer xs) (Refusal n ys) = false
-sameSaid (Refusal n xs) (Answer ys) = false
-sameSaid (Refusal n xs) (Refusal k ys) = eqb n k && same xs ys
+same_said (Answer xs) (Answer ys) = same xs ys
+same_said (Answer xs) (Refusal n ys) = false
+same_said (Refusal n xs) (Answer ys) = false
+same_said (Refusal n xs) (Refusal k ys) = eqb n k && same xs ys
 
 shape_of : Settings → ℕ → List ℕ
-unfolding sliceLen logLen slices scale layouts stride ringLen rotations perBucket ringSlots entries workWords leastFrom logUp leastPower
-shape_of s z = sliceLen s ∷ slices s ∷ scale s ∷ stride s ∷ ringLen s ∷ rotations s ∷ ringSlots s ∷ entries s ∷ workWords s z ∷ []
+unfolding slice_len log_len slices scale layouts stride ring_len rotations per_bucket ring_slots entries work_words least_from log_up least_power
+shape_of s z = slice_len s ∷ slices s ∷ scale s ∷ stride s ∷ ring_len s ∷ rotations s ∷ ring_slots s ∷ entries s ∷ work_words s z ∷ []
 
 -- what is lent: as long as it must be, and not empty
-unfoldable pub lentFor : Input → Lent
-unfolding sliceLen logLen slices scale layouts stride ringLen perBucket ringSlots workWords leastFrom logUp leastPower size_of largestOf largest workNeeded
-lentFor i = record { seeds = i.settings.buckets; bitmap = 1; work = workNeeded i }
+unfoldable pub lent_for : Input → Lent
+unfolding slice_len log_len slices scale layouts stride ring_len per_bucket ring_slots work_words least_from log_up least_power size_of largest_of largest work_needed
+lent_for i = record { seeds = i.settings.buckets; bitmap = 1; work = work_needed i }
 
 -- to unfold `runs` is to unfold all that its line names
 unfoldable pub runs : Bool → Input → Said → List ℕ → List ℕ → List ℕ → Bool
-unfolding sameSaid same lentFor sliceLen logLen slices scale layouts bucketOf sliceOf offset_of quotient first layoutOffset position stride ringLen rotations perBucket ringSlots entries workWords leastFrom logUp leastPower size_of keys_of weightEntry weight held priority goesFirst nonempty turn turns order isFirst barred unbarred candidates seedOf slots_of fits price cost cheaper candidateFits fitting seedOfLeast seedFor takes given marks seedIn firstZero word_of bitmapOf finalSeeds finalMarks finalBitmap failsAt bit slot unmarked holesOf slot_by lookedUp foundSlots first_of line1 line2 line3 line4 line5 line6 line7 linesTo6 linesTo7 moderate stepUp rising largestOf largest line8 line9 line10 line11 line12 line13 line20 smallBucket isHome allHome sweepLines countValues unless keptUnless placedKeys bumpedKeys zeroBucket countsOf ranAnswer ranBuffer chunkGap chunkCount bound shortChunk lastChunk gapChunk rangesOf ranges order_in ordersOf sweepTurns stopsAt sweepNumber sweepAnswer sweepSeeds sweepBitmap workNeeded
+unfolding same_said same lent_for slice_len log_len slices scale layouts bucket_of slice_of offset_of quotient first layout_offset position stride ring_len rotations per_bucket ring_slots entries work_words least_from log_up least_power size_of keys_of weight_entry weight held priority goes_first nonempty turn turns order is_first barred unbarred candidates seed_of slots_of fits price cost cheaper candidate_fits fitting seed_of_least seed_for takes given marks seed_in first_zero word_of bitmap_of final_seeds final_marks final_bitmap fails_at bit slot unmarked holes_of slot_by looked_up found_slots first_of line1 line2 line3 line4 line5 line6 line7 lines_to6 lines_to7 moderate step_up rising largest_of largest line8 line9 line10 line11 line12 line13 line20 small_bucket is_home all_home sweep_lines count_values unless kept_unless placed_keys bumped_keys zero_bucket counts_of ran_answer ran_buffer chunk_gap chunk_count bound short_chunk last_chunk gap_chunk ranges_of ranges order_in orders_of sweep_turns stops_at sweep_number sweep_answer sweep_seeds sweep_bitmap work_needed
 runs bump i said seeds found holes =
-    let after = sweepSeeds byLowBits (inOne bump) i (lentFor i) (replicate i.settings.buckets 7) in
-    let bitmap = sweepBitmap byLowBits (inOne bump) i (lentFor i) (12345 ∷ []) in
-    sameSaid (sweepAnswer byLowBits (inOne bump) i (lentFor i)) said && same after seeds && same (foundSlots i.settings after i.hashes) found && same (holesOf i.settings.m bitmap) holes
+    let after = sweep_seeds by_low_bits (in_one bump) i (lent_for i) (replicate i.settings.buckets 7) in
+    let bitmap = sweep_bitmap by_low_bits (in_one bump) i (lent_for i) (12345 ∷ []) in
+    same_said (sweep_answer by_low_bits (in_one bump) i (lent_for i)) said && same after seeds && same (found_slots i.settings after i.hashes) found && same (holes_of i.settings.m bitmap) holes
 
-rivalsOf : Input → ℕ → ℕ → List ℕ
-unfolding size_of keys_of slots_of fits price cost position layoutOffset offset_of sliceOf first quotient layouts scale slices sliceLen logLen leastFrom logUp leastPower
-rivalsOf i v u = indicator (ltb (cost i 0 v) (cost i 0 u)) ∷ indicator (fits i [] 0 v) ∷ indicator (fits i [] 0 u) ∷ []
+rivals_of : Input → ℕ → ℕ → List ℕ
+unfolding size_of keys_of slots_of fits price cost position layout_offset offset_of slice_of first quotient layouts scale slices slice_len log_len least_from log_up least_power
+rivals_of i v u = indicator (ltb (cost i 0 v) (cost i 0 u)) ∷ indicator (fits i [] 0 v) ∷ indicator (fits i [] 0 u) ∷ []
 
 weighs : ℤ → ℤ → ℕ → List ℕ
-unfolding weight weightEntry held
+unfolding weight weight_entry held
 weighs w6 w7 size = let w = weight (replicate 5 (Int.pos 0) ++ w6 ∷ w7 ∷ []) size in up w ∷ dn w ∷ []
 
 pair_of : ℕ → List ℕ
-unfolding order nonempty turns turn goesFirst priority weight weightEntry held size_of
+unfolding order nonempty turns turn goes_first priority weight weight_entry held size_of
 pair_of b =
     let i : Input = record {
       settings = record { m = 7; log2_slice_len = 3; ll = 0; sb = 4; buckets = b + 2 };
@@ -87,13 +87,13 @@ pair_of b =
       begins = replicate b 0 ++ 0 ∷ 1 ∷ 3 ∷ [];
       table = [];
     } in
-    order byLowBits i b (b + 2)
+    order by_low_bits i b (b + 2)
 
 pub right : Sheet → Bool
-unfolding same shape_of runs rivalsOf weighs pair_of
+unfolding same shape_of runs rivals_of weighs pair_of
 right (Shape s z wanted) = same (shape_of s z) wanted
 right (Run bump i said seeds found holes) = runs bump i said seeds found holes
-right (Rivals i v u wanted) = same (rivalsOf i v u) wanted
+right (Rivals i v u wanted) = same (rivals_of i v u) wanted
 right (Weighs w6 w7 size wanted) = same (weighs w6 w7 size) wanted
 right (Pair b wanted) = same (pair_of b) wanted
 
@@ -149,6 +149,6 @@ sheets =
     ∷ Pair 5 (5 ∷ 6 ∷ [])
     ∷ []
 
-pub sheets-right : T (every right sheets)
+pub sheets_right : T (every right sheets)
 unfolding sheets right table small listing
-sheets-right = tt
+sheets_right = tt

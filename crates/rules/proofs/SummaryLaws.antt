@@ -7,22 +7,22 @@ use Prim.Native.Nat.{ℕ, ◌+◌, ◌≤◌}
 use native.Mathlib.Omega.{arith}
 use lib.Dec.{eqb}
 use lib.ListN.{length, get_or}
-use Rattle.rules.specs.Lists.{below, concatMap}
+use Rattle.rules.specs.Lists.{below, concat_map}
 use Rattle.rules.specs.Order.{Input, keys_of, size_of}
-use Rattle.rules.specs.Holes.{lookedUp, foundSlots}
-use Rattle.rules.specs.Answers.{placedKeys, bumpedKeys, zeroBucket, countsOf}
+use Rattle.rules.specs.Holes.{looked_up, found_slots}
+use Rattle.rules.specs.Answers.{placed_keys, bumped_keys, zero_bucket, counts_of}
 use Rattle.rules.specs.Good.{Grouped}
-use Rattle.rules.proofs.Counting.{ind-le, length_from}
-use Rattle.rules.proofs.Ranges.{below-elem}
-use Rattle.rules.proofs.Sums.{total-congr, total-add, total-le, total-one, length-concat}
-use Rattle.rules.proofs.GroupLaws.{sizes-all}
-use Rattle.rules.proofs.PlacedLaws.{found-buckets, found-keys, length-takes}
+use Rattle.rules.proofs.Counting.{ind_le, length_from}
+use Rattle.rules.proofs.Ranges.{below_elem}
+use Rattle.rules.proofs.Sums.{total_congr, total_add, total_le, total_one, length_concat}
+use Rattle.rules.proofs.GroupLaws.{sizes_all}
+use Rattle.rules.proofs.PlacedLaws.{found_buckets, found_keys, length_takes}
 
 module _ (i : Input) (seeds : List ℕ) where
   -- a bucket's keys are placed or bumped
-  one-bucket : (b : ℕ) → placedKeys i seeds b + bumpedKeys i seeds b ≡ size_of i b
-  unfolding placedKeys bumpedKeys
-  one-bucket b = go (eqb (get_or seeds b 0) 0)
+  one_bucket : (b : ℕ) → placed_keys i seeds b + bumped_keys i seeds b ≡ size_of i b
+  unfolding placed_keys bumped_keys
+  one_bucket b = go (eqb (get_or seeds b 0) 0)
     where
       go : (c : Bool) → cond c 0 (size_of i b) + cond c (size_of i b) 0 ≡ size_of i b
       go true = omega arith
@@ -30,21 +30,21 @@ module _ (i : Input) (seeds : List ℕ) where
 
   module _ (G : Grouped i) where
     -- the placed keys are those that a lookup finds
-    pub placed-found : (countsOf i seeds).placed ≡ length (foundSlots i.settings seeds i.hashes)
-    unfolding countsOf placedKeys
-    placed-found = sym (
-        ap length (found-buckets i G seeds)
-        ∙ length-concat (λ (b : ℕ). concatMap (lookedUp i.settings seeds) (keys_of i b)) (below i.settings.buckets)
-        ∙ total-congr (λ (b : ℕ). length (concatMap (lookedUp i.settings seeds) (keys_of i b))) (placedKeys i seeds) (below i.settings.buckets)
-        (λ b t. let h = below-elem b i.settings.buckets t in ap length (found-keys i G seeds b h) ∙ length-takes i G b (get_or seeds b 0) h))
+    pub placed_found : (counts_of i seeds).placed ≡ length (found_slots i.settings seeds i.hashes)
+    unfolding counts_of placed_keys
+    placed_found = sym (
+        ap length (found_buckets i G seeds)
+        ∙ length_concat (λ (b : ℕ). concat_map (looked_up i.settings seeds) (keys_of i b)) (below i.settings.buckets)
+        ∙ total_congr (λ (b : ℕ). length (concat_map (looked_up i.settings seeds) (keys_of i b))) (placed_keys i seeds) (below i.settings.buckets)
+        (λ b t. let h = below_elem b i.settings.buckets t in ap length (found_keys i G seeds b h) ∙ length_takes i G b (get_or seeds b 0) h))
 
-    pub placed-bumped : (countsOf i seeds).placed + (countsOf i seeds).bumped ≡ length i.hashes
-    unfolding countsOf
-    placed-bumped =
-        total-add (placedKeys i seeds) (bumpedKeys i seeds) (below i.settings.buckets)
-        ∙ total-congr (λ (b : ℕ). placedKeys i seeds b + bumpedKeys i seeds b) (size_of i) (below i.settings.buckets) (λ b t. one-bucket b)
-        ∙ sizes-all i G
+    pub placed_bumped : (counts_of i seeds).placed + (counts_of i seeds).bumped ≡ length i.hashes
+    unfolding counts_of
+    placed_bumped =
+        total_add (placed_keys i seeds) (bumped_keys i seeds) (below i.settings.buckets)
+        ∙ total_congr (λ (b : ℕ). placed_keys i seeds b + bumped_keys i seeds b) (size_of i) (below i.settings.buckets) (λ b t. one_bucket b)
+        ∙ sizes_all i G
 
-  pub zero-le : (countsOf i seeds).zero ≤ i.settings.buckets
-  unfolding countsOf zeroBucket
-  zero-le = omega (arith, total-le (zeroBucket i seeds) (λ (b : ℕ). 1) (below i.settings.buckets) (λ b. ind-le (eqb (get_or seeds b 0) 0)), total-one (below i.settings.buckets), length_from 0 i.settings.buckets)
+  pub zero_le : (counts_of i seeds).zero ≤ i.settings.buckets
+  unfolding counts_of zero_bucket
+  zero_le = omega (arith, total_le (zero_bucket i seeds) (λ (b : ℕ). 1) (below i.settings.buckets) (λ b. ind_le (eqb (get_or seeds b 0) 0)), total_one (below i.settings.buckets), length_from 0 i.settings.buckets)

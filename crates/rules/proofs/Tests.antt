@@ -20,11 +20,11 @@ pub is_false : (b : Bool) → T (not b) → b ≡ false
 is_false true t = absurd t
 is_false false t = refl
 
-pub of-true : {b : Bool} → b ≡ true → T b
-of-true e = subst T (sym e) tt
+pub of_true : {b : Bool} → b ≡ true → T b
+of_true e = subst T (sym e) tt
 
-pub of-false : {b : Bool} → b ≡ false → T (not b)
-of-false e = subst (λ (c : Bool). T (not c)) (sym e) tt
+pub of_false : {b : Bool} → b ≡ false → T (not b)
+of_false e = subst (λ (c : Bool). T (not c)) (sym e) tt
 
 pub and_left : (a b : Bool) → T (a && b) → T a
 and_left true b t = tt
@@ -50,33 +50,33 @@ pub or_right : (a b : Bool) → T b → T (a || b)
 or_right true b t = tt
 or_right false b t = t
 
-pub not-or : (a b : Bool) → T (not a) → T (not b) → T (not (a || b))
-not-or true b s t = s
-not-or false b s t = t
+pub not_or : (a b : Bool) → T (not a) → T (not b) → T (not (a || b))
+not_or true b s t = s
+not_or false b s t = t
 
-pub not-or-left : (a b : Bool) → T (not (a || b)) → T (not a)
-not-or-left true b t = t
-not-or-left false b t = tt
+pub not_or_left : (a b : Bool) → T (not (a || b)) → T (not a)
+not_or_left true b t = t
+not_or_left false b t = tt
 
-pub not-or-right : (a b : Bool) → T (not (a || b)) → T (not b)
-not-or-right true b t = absurd t
-not-or-right false b t = t
+pub not_or_right : (a b : Bool) → T (not (a || b)) → T (not b)
+not_or_right true b t = absurd t
+not_or_right false b t = t
 
-pub not-and-left : (a b : Bool) → T (not a) → T (not (a && b))
-not-and-left true b t = absurd t
-not-and-left false b t = tt
+pub not_and_left : (a b : Bool) → T (not a) → T (not (a && b))
+not_and_left true b t = absurd t
+not_and_left false b t = tt
 
-pub not-and-right : (a b : Bool) → T (not b) → T (not (a && b))
-not-and-right true b t = t
-not-and-right false b t = tt
+pub not_and_right : (a b : Bool) → T (not b) → T (not (a && b))
+not_and_right true b t = t
+not_and_right false b t = tt
 
-pub not-and-cases : (a b : Bool) → T (not (a && b)) → T (not a) ⊎ T (not b)
-not-and-cases true b t = inr t
-not-and-cases false b t = inl tt
+pub not_and_cases : (a b : Bool) → T (not (a && b)) → T (not a) ⊎ T (not b)
+not_and_cases true b t = inr t
+not_and_cases false b t = inl tt
 
-pub not-not : (a : Bool) → T a → T (not (not a))
-not-not true t = tt
-not-not false t = t
+pub not_not : (a : Bool) → T a → T (not (not a))
+not_not true t = tt
+not_not false t = t
 
 pub of_not_not : (a : Bool) → T (not (not a)) → T a
 of_not_not true t = tt
@@ -101,22 +101,22 @@ elem_mem x (y ∷ ys) t = go (elem_mem x ys) (or_cases (eqb x y) (elem x ys) t)
     go ih (inl e) = Memᴰ.head (eqb→eq x y e)
     go ih (inr s) = Memᴰ.tail (ih s)
 
-pub mem-elem : {x : ℕ} {ys : List ℕ} → Memᴰ x ys → T (elem x ys)
-mem-elem {x} (Memᴰ.head {x = y} {xs = ys} e) = or_left (eqb x y) (elem x ys) (eq→eqb x y e)
-mem-elem {x} (Memᴰ.tail {x = y} {xs = ys} h) = or_right (eqb x y) (elem x ys) (mem-elem h)
+pub mem_elem : {x : ℕ} {ys : List ℕ} → Memᴰ x ys → T (elem x ys)
+mem_elem {x} (Memᴰ.head {x = y} {xs = ys} e) = or_left (eqb x y) (elem x ys) (eq→eqb x y e)
+mem_elem {x} (Memᴰ.tail {x = y} {xs = ys} h) = or_right (eqb x y) (elem x ys) (mem_elem h)
 
 module _ {A : Type 0} (p : A → Bool) where
-  pub mem-filter : (xs : List A) {a : A} → Memᴰ a (filter p xs) → Memᴰ a xs × T (p a)
-  mem-filter [] h = absurd (Memᴰ.not-nil h)
-  mem-filter (x ∷ xs) {a} h = go (p x) refl (mem-filter xs) h
+  pub mem_filter : (xs : List A) {a : A} → Memᴰ a (filter p xs) → Memᴰ a xs × T (p a)
+  mem_filter [] h = absurd (Memᴰ.not-nil h)
+  mem_filter (x ∷ xs) {a} h = go (p x) refl (mem_filter xs) h
     where
       go : (c : Bool) → p x ≡ c → (Memᴰ a (filter p xs) → Memᴰ a xs × T (p a)) → Memᴰ a (keep c x (filter p xs)) → Memᴰ a (x ∷ xs) × T (p a)
-      go true e ih m = elim (Memᴰ.cases_cons m) [ inl q ↦ (Memᴰ.head q, subst (λ (y : A). T (p y)) (sym q) (of-true e)) | inr k ↦ (Memᴰ.tail (ih k).0, (ih k).1) ]
+      go true e ih m = elim (Memᴰ.cases_cons m) [ inl q ↦ (Memᴰ.head q, subst (λ (y : A). T (p y)) (sym q) (of_true e)) | inr k ↦ (Memᴰ.tail (ih k).0, (ih k).1) ]
       go false e ih m = (Memᴰ.tail (ih m).0, (ih m).1)
 
-  pub filter-mem : (xs : List A) {a : A} → Memᴰ a xs → T (p a) → Memᴰ a (filter p xs)
-  filter-mem [] h t = absurd (Memᴰ.not-nil h)
-  filter-mem (x ∷ xs) {a} h t = go (p x) refl (filter-mem xs) (Memᴰ.cases_cons h)
+  pub filter_mem : (xs : List A) {a : A} → Memᴰ a xs → T (p a) → Memᴰ a (filter p xs)
+  filter_mem [] h t = absurd (Memᴰ.not-nil h)
+  filter_mem (x ∷ xs) {a} h t = go (p x) refl (filter_mem xs) (Memᴰ.cases_cons h)
     where
       go : (c : Bool) → p x ≡ c → (Memᴰ a xs → T (p a) → Memᴰ a (filter p xs)) → (a ≡ x) ⊎ Memᴰ a xs → Memᴰ a (keep c x (filter p xs))
       go true e ih (inl q) = Memᴰ.head q

@@ -9,54 +9,54 @@ use lib.Dec.{T, ltb, ltb→lt}
 use lib.ListN.{get_or}
 use Rattle.words.specs.Map.{Words}
 use Rattle.rules.specs.Lists.{every}
-use Rattle.rules.specs.Order.{Input, byLowBits}
-use Rattle.rules.specs.Numbers.{first_of, sweepLines}
-use Rattle.rules.specs.Chunks.{inOne}
-use Rattle.rules.specs.Answers.{Answer, Refusal, stopsAt, sweepAnswer, sweepSeeds, sweepBitmap}
-use Rattle.rules.proofs.Ranges.{every-getD}
-use Rattle.rules.proofs.Theorems.{Swept, swept-low, Stopped, stopped}
-use Rattle.rules.proofs.Sheets.{table, small, listing, lentFor, runs}
+use Rattle.rules.specs.Order.{Input, by_low_bits}
+use Rattle.rules.specs.Numbers.{first_of, sweep_lines}
+use Rattle.rules.specs.Chunks.{in_one}
+use Rattle.rules.specs.Answers.{Answer, Refusal, stops_at, sweep_answer, sweep_seeds, sweep_bitmap}
+use Rattle.rules.proofs.Ranges.{every_get_d}
+use Rattle.rules.proofs.Theorems.{Swept, swept_low, Stopped, stopped}
+use Rattle.rules.proofs.Sheets.{table, small, listing, lent_for, runs}
 
 -- each entry below 2^64, by one test
 narrow : ℕ → Bool
 narrow x = ltb x (2 ^ 64)
 
-words-by : (xs : List ℕ) → T (every narrow xs) → Words xs
+words_by : (xs : List ℕ) → T (every narrow xs) → Words xs
 unfolding narrow
-words-by xs t k = ltb→lt (get_or xs k 0) (2 ^ 64) (every-getD narrow 0 xs t tt k)
+words_by xs t k = ltb→lt (get_or xs k 0) (2 ^ 64) (every_get_d narrow 0 xs t tt k)
 
 -- ---- done
 
-listing-passes : first_of (sweepLines (inOne true) (listing 2048) (lentFor (listing 2048))) ≡ 0
+listing_passes : first_of (sweep_lines (in_one true) (listing 2048) (lent_for (listing 2048))) ≡ 0
 unfolding listing table runs
-listing-passes = refl
+listing_passes = refl
 
-pub listing-swept : Swept byLowBits 1 (listing 2048)
+pub listing_swept : Swept by_low_bits 1 (listing 2048)
 unfolding listing narrow
-listing-swept = swept-low (inOne true) (listing 2048) (lentFor (listing 2048)) listing-passes (words-by (listing 2048).hashes tt)
+listing_swept = swept_low (in_one true) (listing 2048) (lent_for (listing 2048)) listing_passes (words_by (listing 2048).hashes tt)
 
 -- placed 3, bumped 0, one zero bucket; seeds 3, 4, 0; slots 1, 2 and 4 marked, whatever the buffers held
-pub listing-answer : sweepAnswer byLowBits (inOne true) (listing 2048) (lentFor (listing 2048)) ≡ Answer (3 ∷ 0 ∷ 1 ∷ [])
+pub listing_answer : sweep_answer by_low_bits (in_one true) (listing 2048) (lent_for (listing 2048)) ≡ Answer (3 ∷ 0 ∷ 1 ∷ [])
 unfolding listing table runs
-listing-answer = refl
+listing_answer = refl
 
-pub listing-seeds : sweepSeeds byLowBits (inOne true) (listing 2048) (lentFor (listing 2048)) (1 ∷ 2 ∷ 3 ∷ []) ≡ 3 ∷ 4 ∷ 0 ∷ []
+pub listing_seeds : sweep_seeds by_low_bits (in_one true) (listing 2048) (lent_for (listing 2048)) (1 ∷ 2 ∷ 3 ∷ []) ≡ 3 ∷ 4 ∷ 0 ∷ []
 unfolding listing table runs
-listing-seeds = refl
+listing_seeds = refl
 
-pub listing-bitmap : sweepBitmap byLowBits (inOne true) (listing 2048) (lentFor (listing 2048)) (5 ∷ []) ≡ 22 ∷ []
+pub listing_bitmap : sweep_bitmap by_low_bits (in_one true) (listing 2048) (lent_for (listing 2048)) (5 ∷ []) ≡ 22 ∷ []
 unfolding listing table runs
-listing-bitmap = refl
+listing_bitmap = refl
 
 -- no chunk is refused, by 20, before what else is wrong with what is lent
-pub listing-unchunked : sweepAnswer byLowBits (record { bump = true; chunks = 0 }) (listing 2048) (record { seeds = 0; bitmap = 0; work = 0 }) ≡ Refusal 20 []
+pub listing_unchunked : sweep_answer by_low_bits (record { bump = true; chunks = 0 }) (listing 2048) (record { seeds = 0; bitmap = 0; work = 0 }) ≡ Refusal 20 []
 unfolding listing table runs
-listing-unchunked = refl
+listing_unchunked = refl
 
 -- one word of work less is refused, by 13
-pub listing-short : sweepAnswer byLowBits (inOne true) (listing 2048) (record { seeds = 3; bitmap = 1; work = 2821 }) ≡ Refusal 13 []
+pub listing_short : sweep_answer by_low_bits (in_one true) (listing 2048) (record { seeds = 3; bitmap = 1; work = 2821 }) ≡ Refusal 13 []
 unfolding listing table runs
-listing-short = refl
+listing_short = refl
 
 -- ---- stopped
 
@@ -64,14 +64,14 @@ listing-short = refl
 unfoldable pub twins : Input
 twins = small 7 4 (0 ∷ 0 ∷ [])
 
-twins-passes : first_of (sweepLines (inOne false) twins (lentFor twins)) ≡ 0
+twins_passes : first_of (sweep_lines (in_one false) twins (lent_for twins)) ≡ 0
 unfolding twins small table runs
-twins-passes = refl
+twins_passes = refl
 
-twins-stops : stopsAt byLowBits (inOne false) twins ≡ some 0
+twins_stops : stops_at by_low_bits (in_one false) twins ≡ some 0
 unfolding twins small table runs
-twins-stops = refl
+twins_stops = refl
 
-pub twins-stopped : Stopped byLowBits 1 twins 0
+pub twins_stopped : Stopped by_low_bits 1 twins 0
 unfolding twins small narrow
-twins-stopped = stopped byLowBits (inOne false) twins (lentFor twins) twins-passes (words-by twins.hashes tt) 0 twins-stops
+twins_stopped = stopped by_low_bits (in_one false) twins (lent_for twins) twins_passes (words_by twins.hashes tt) 0 twins_stops

@@ -5,38 +5,38 @@ use Rattle.std.proofs.Math.IntN as Int
 use Rattle.rules.specs.declared.Settings.{Settings}
 use Rattle.rules.specs.declared.How.{How}
 use Rattle.rules.specs.Lists.{elem}
-use Rattle.rules.specs.Geometry.{perBucket, entries, workWords, bucketOf}
+use Rattle.rules.specs.Geometry.{per_bucket, entries, work_words, bucket_of}
 use Rattle.rules.specs.Order.{Input, size_of, keys_of}
-use Rattle.rules.specs.Numbers.{Lent, bitmapWords, largest}
+use Rattle.rules.specs.Numbers.{Lent, bitmap_words, largest}
 
 -- settings that none of 1 to 6 refuses
 pub record Usable (s : Settings) : Type 0 where
-  pub sb-low : 2 ≤ s.sb
-  pub sb-high : s.sb ≤ 16
-  pub ll-low : s.ll < s.sb
-  pub slice-low : 3 ≤ s.log2_slice_len
-  pub slice-high : s.log2_slice_len ≤ 16
-  pub ll-high : s.ll ≤ 6
-  pub layout-bits : s.log2_slice_len * 2 ^ s.ll ≤ 64
-  pub m-low : 1 ≤ s.m
-  pub m-high : s.m ≤ 134217728
+  pub sb_low : 2 ≤ s.sb
+  pub sb_high : s.sb ≤ 16
+  pub ll_low : s.ll < s.sb
+  pub slice_low : 3 ≤ s.log2_slice_len
+  pub slice_high : s.log2_slice_len ≤ 16
+  pub ll_high : s.ll ≤ 6
+  pub layout_bits : s.log2_slice_len * 2 ^ s.ll ≤ 64
+  pub m_low : 1 ≤ s.m
+  pub m_high : s.m ≤ 134217728
   pub odd : s.buckets % 2 ≡ 1
-  pub buckets-high : s.buckets ≤ 67108865
+  pub buckets_high : s.buckets ≤ 67108865
 
 -- settings that none of 1 to 7 refuses
 pub record Good (s : Settings) : Type 0 where
-  pub sb-low : 2 ≤ s.sb
-  pub sb-high : s.sb ≤ 16
-  pub ll-low : s.ll < s.sb
-  pub slice-low : 3 ≤ s.log2_slice_len
-  pub slice-high : s.log2_slice_len ≤ 16
-  pub ll-high : s.ll ≤ 6
-  pub layout-bits : s.log2_slice_len * 2 ^ s.ll ≤ 64
-  pub m-low : 1 ≤ s.m
-  pub m-high : s.m ≤ 134217728
+  pub sb_low : 2 ≤ s.sb
+  pub sb_high : s.sb ≤ 16
+  pub ll_low : s.ll < s.sb
+  pub slice_low : 3 ≤ s.log2_slice_len
+  pub slice_high : s.log2_slice_len ≤ 16
+  pub ll_high : s.ll ≤ 6
+  pub layout_bits : s.log2_slice_len * 2 ^ s.ll ≤ 64
+  pub m_low : 1 ≤ s.m
+  pub m_high : s.m ≤ 134217728
   pub odd : s.buckets % 2 ≡ 1
-  pub buckets-high : s.buckets ≤ 67108865
-  pub share : perBucket s ≤ 4096
+  pub buckets_high : s.buckets ≤ 67108865
+  pub share : per_bucket s ≤ 4096
 
 -- none of the first `size` entries is above a later one of them
 unfoldable pub Rising : List ℕ → (size : ℕ) → Type 0
@@ -50,7 +50,7 @@ pub record Grouped (i : Input) : Type 0 where
   pub ends : get_or i.begins i.settings.buckets 0 ≡ length i.hashes
   pub few : length i.hashes ≤ 67108864
   pub sizes : (b : ℕ) → b < i.settings.buckets → size_of i b ≤ 4096
-  pub home : (b : ℕ) → b < i.settings.buckets → (h : ℕ) → T (elem h (keys_of i b)) → bucketOf i.settings h ≡ b
+  pub home : (b : ℕ) → b < i.settings.buckets → (h : ℕ) → T (elem h (keys_of i b)) → bucket_of i.settings h ≡ b
 
 -- what 8 leaves
 unfoldable pub Moderate : Input → Type 0
@@ -71,7 +71,7 @@ pub record Sound (i : Input) : Type 0 where
 -- with a way to sweep that 20 does not refuse, and lent buffers that 13 does not
 pub record Passed (how : How) (i : Input) (lent : Lent) : Type 0 where
   pub sound : Sound i
-  pub some-chunk : 1 ≤ how.chunks
+  pub some_chunk : 1 ≤ how.chunks
   pub seeds : lent.seeds ≡ i.settings.buckets
-  pub bitmap : lent.bitmap ≡ bitmapWords i.settings.m
-  pub work : workWords i.settings (largest i) ≤ lent.work
+  pub bitmap : lent.bitmap ≡ bitmap_words i.settings.m
+  pub work : work_words i.settings (largest i) ≤ lent.work

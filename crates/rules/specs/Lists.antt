@@ -3,17 +3,17 @@ use Rattle.std.specs.Prelude.{ℕ, zero, suc, ◌+◌, ◌-◌, ◌*◌, Bool, t
 use Rattle.std.specs.Int.Signed.{lt_z}
 
 -- i, i + 1, .., n numbers in all
-abbrev pub countFrom : ℕ → ℕ → List ℕ
-countFrom i zero = []
-countFrom i (suc n) = i ∷ countFrom (suc i) n
+abbrev pub count_from : ℕ → ℕ → List ℕ
+count_from i zero = []
+count_from i (suc n) = i ∷ count_from (suc i) n
 
 -- the numbers below n, ascending
 abbrev pub below : ℕ → List ℕ
-below n = countFrom 0 n
+below n = count_from 0 n
 
 -- the numbers from lo up to hi, hi left out, ascending
 abbrev pub between : ℕ → ℕ → List ℕ
-between lo hi = countFrom lo (hi - lo)
+between lo hi = count_from lo (hi - lo)
 
 abbrev pub elem : ℕ → List ℕ → Bool
 elem x [] = false
@@ -43,9 +43,9 @@ sum [] = 0
 sum (x ∷ xs) = x + sum xs
 
 -- none of xs is in marked
-abbrev pub allFree : List ℕ → List ℕ → Bool
-allFree marked [] = true
-allFree marked (x ∷ xs) = not (elem x marked) && allFree marked xs
+abbrev pub all_free : List ℕ → List ℕ → Bool
+all_free marked [] = true
+all_free marked (x ∷ xs) = not (elem x marked) && all_free marked xs
 
 -- no two of xs are alike
 abbrev pub distinct : List ℕ → Bool
@@ -53,9 +53,9 @@ distinct [] = true
 distinct (x ∷ xs) = not (elem x xs) && distinct xs
 
 module _ {A : Type 0} where
-  abbrev pub concatMap : (A → List ℕ) → List A → List ℕ
-  concatMap f [] = []
-  concatMap f (x ∷ xs) = f x ++ concatMap f xs
+  abbrev pub concat_map : (A → List ℕ) → List A → List ℕ
+  concat_map f [] = []
+  concat_map f (x ∷ xs) = f x ++ concat_map f xs
 
   -- the sum of f over the list
   abbrev pub total : (A → ℕ) → List A → ℕ
@@ -84,8 +84,8 @@ module _ {A : Type 0} where
   greater key x y = lt_z (key y) (key x)
 
   -- by the first order, and where it does not tell by the second
-  abbrev pub thenBy : (A → A → Bool) → (A → A → Bool) → A → A → Bool
-  thenBy f g x y = f x y || (not (f y x) && g x y)
+  abbrev pub then_by : (A → A → Bool) → (A → A → Bool) → A → A → Bool
+  then_by f g x y = f x y || (not (f y x) && g x y)
 
   -- of a and the elements of xs the one that goes before the others
   abbrev pub best : (A → A → Bool) → A → List A → A

@@ -5,10 +5,10 @@ use Rattle.std.specs.Int.Signed.{lt_z}
 use Rattle.rules.specs.declared.Settings.{Settings}
 use Rattle.rules.specs.declared.How.{How}
 use Rattle.rules.specs.Lists.{below, every}
-use Rattle.rules.specs.Geometry.{perBucket, entries, workWords, bucketOf}
-use Rattle.rules.specs.BucketCount.{sizeCap, sizeFits}
+use Rattle.rules.specs.Geometry.{per_bucket, entries, work_words, bucket_of}
+use Rattle.rules.specs.BucketCount.{size_cap, size_fits}
 use Rattle.rules.specs.Order.{Input, keys_of, size_of}
-use Rattle.rules.specs.Holes.{holesOf}
+use Rattle.rules.specs.Holes.{holes_of}
 
 -- a line of the table: its number, and whether it applies
 pub record Line : Type 0 where
@@ -54,30 +54,30 @@ module _ (s : Settings) where
 
   -- 7: p > 4,096
   unfoldable pub line7 : Line
-  line7 = line 7 (ltb 4096 (perBucket s))
+  line7 = line 7 (ltb 4096 (per_bucket s))
 
   -- what a lookup checks of the settings, 1 to 6, and a sweep, 1 to 7
-  unfoldable pub linesTo6 : List Line
-  linesTo6 = line1 ∷ line2 ∷ line3 s.log2_slice_len ∷ line4 ∷ line5 s.m ∷ line6 ∷ []
+  unfoldable pub lines_to6 : List Line
+  lines_to6 = line1 ∷ line2 ∷ line3 s.log2_slice_len ∷ line4 ∷ line5 s.m ∷ line6 ∷ []
 
-  unfoldable pub linesTo7 : List Line
-  linesTo7 = linesTo6 ++ line7 ∷ []
+  unfoldable pub lines_to7 : List Line
+  lines_to7 = lines_to6 ++ line7 ∷ []
 
 -- within ±2^32
 unfoldable pub moderate : ℤ → Bool
 moderate w = not (lt_z (Int.pos (2 ^ 32)) w) && not (lt_z w (Int.neg_ℤ (Int.pos (2 ^ 32))))
 
 -- the entry at b is not above the next
-unfoldable pub stepUp : List ℕ → (b : ℕ) → Bool
-stepUp xs b = leb (get_or xs b 0) (get_or xs (b + 1) 0)
+unfoldable pub step_up : List ℕ → (b : ℕ) → Bool
+step_up xs b = leb (get_or xs b 0) (get_or xs (b + 1) 0)
 
 -- none of the first n entries is above the next
 unfoldable pub rising : List ℕ → (n : ℕ) → Bool
-rising xs n = every (stepUp xs) (below n)
+rising xs n = every (step_up xs) (below n)
 
 -- begins not B+1 long, not starting at 0, falling, or not ending at the hash count; or more than 67,108,864 hashes
-abbrev pub beginsBad : (begins : List ℕ) → (buckets keys : ℕ) → Bool
-beginsBad begins buckets keys =
+abbrev pub begins_bad : (begins : List ℕ) → (buckets keys : ℕ) → Bool
+begins_bad begins buckets keys =
     not (eqb (length begins) (buckets + 1))
     || not (eqb (get_or begins 0 0) 0)
     || not (rising begins buckets)
@@ -85,13 +85,13 @@ beginsBad begins buckets keys =
     || ltb 67108864 keys
 
 -- table too short, or falling within the entries needed
-abbrev pub tableBad : (table : List ℕ) → (needed : ℕ) → Bool
-tableBad table needed = ltb (length table) needed || not (rising table (needed - 1))
+abbrev pub table_bad : (table : List ℕ) → (needed : ℕ) → Bool
+table_bad table needed = ltb (length table) needed || not (rising table (needed - 1))
 
 -- the largest of the sizes of a list of buckets
-unfoldable pub largestOf : Input → List ℕ → ℕ
-largestOf i [] = 0
-largestOf i (b ∷ bs) = max (size_of i b) (largestOf i bs)
+unfoldable pub largest_of : Input → List ℕ → ℕ
+largest_of i [] = 0
+largest_of i (b ∷ bs) = max (size_of i b) (largest_of i bs)
 
 -- the lengths of what is lent for writing
 pub record Lent : Type 0 where
@@ -104,13 +104,13 @@ abbrev pub lent_of : (seeds bitmap work : List ℕ) → Lent
 lent_of seeds bitmap work = record { seeds = length seeds; bitmap = length bitmap; work = length work }
 
 -- ceil(m/64)
-abbrev pub bitmapWords : (m : ℕ) → ℕ
-bitmapWords m = (m + 63) / 64
+abbrev pub bitmap_words : (m : ℕ) → ℕ
+bitmap_words m = (m + 63) / 64
 
 module _ (i : Input) where
   -- z, the largest bucket size
   unfoldable pub largest : ℕ
-  largest = largestOf i (below i.settings.buckets)
+  largest = largest_of i (below i.settings.buckets)
 
   -- 8: a weight beyond ±2^32
   unfoldable pub line8 : Line
@@ -118,63 +118,63 @@ module _ (i : Input) where
 
   -- 9: begins bad for B buckets and the hash count
   unfoldable pub line9 : Line
-  line9 = line 9 (beginsBad i.begins i.settings.buckets (length i.hashes))
+  line9 = line 9 (begins_bad i.begins i.settings.buckets (length i.hashes))
 
   -- a bucket of at most 4,096 keys
-  unfoldable pub smallBucket : (b : ℕ) → Bool
-  smallBucket b = leb (size_of i b) 4096
+  unfoldable pub small_bucket : (b : ℕ) → Bool
+  small_bucket b = leb (size_of i b) 4096
 
   -- 10: a bucket of more than 4,096 keys
   unfoldable pub line10 : Line
-  line10 = line 10 (not (every smallBucket (below i.settings.buckets)))
+  line10 = line 10 (not (every small_bucket (below i.settings.buckets)))
 
-  unfoldable pub isHome : (b h : ℕ) → Bool
-  isHome b h = eqb (bucketOf i.settings h) b
+  unfoldable pub is_home : (b h : ℕ) → Bool
+  is_home b h = eqb (bucket_of i.settings h) b
 
   -- each hash of bucket b is inside it
-  unfoldable pub allHome : (b : ℕ) → Bool
-  allHome b = every (isHome b) (keys_of i b)
+  unfoldable pub all_home : (b : ℕ) → Bool
+  all_home b = every (is_home b) (keys_of i b)
 
   -- 11: a hash outside its bucket
   unfoldable pub line11 : Line
-  line11 = line 11 (not (every allHome (below i.settings.buckets)))
+  line11 = line 11 (not (every all_home (below i.settings.buckets)))
 
   -- 12: table bad for the entries needed
   unfoldable pub line12 : Line
-  line12 = line 12 (tableBad i.table (entries i.settings))
+  line12 = line 12 (table_bad i.table (entries i.settings))
 
   -- 13: seeds not B long, bitmap not ceil(m/64) long, or work under W
   unfoldable pub line13 : Lent → Line
   line13 lent =
       line 13
       (not (eqb lent.seeds i.settings.buckets)
-      || not (eqb lent.bitmap (bitmapWords i.settings.m))
-      || ltb lent.work (workWords i.settings largest))
+      || not (eqb lent.bitmap (bitmap_words i.settings.m))
+      || ltb lent.work (work_words i.settings largest))
 
 -- 20: chunk count 0
 unfoldable pub line20 : How → Line
 line20 how = line 20 (eqb how.chunks 0)
 
 -- what a sweep checks before it starts
-unfoldable pub sweepLines : How → Input → Lent → List Line
-sweepLines how i lent = linesTo7 i.settings ++ line8 i ∷ line20 how ∷ line9 i ∷ line10 i ∷ line11 i ∷ line12 i ∷ line13 i lent ∷ []
+unfoldable pub sweep_lines : How → Input → Lent → List Line
+sweep_lines how i lent = lines_to7 i.settings ++ line8 i ∷ line20 how ∷ line9 i ∷ line10 i ∷ line11 i ∷ line12 i ∷ line13 i lent ∷ []
 
 -- lookup checks 1 to 6, 13 (seeds only)
-unfoldable pub lookupLines : Settings → (seeds : ℕ) → List Line
-lookupLines s seeds = linesTo6 s ++ line 13 (not (eqb seeds s.buckets)) ∷ []
+unfoldable pub lookup_lines : Settings → (seeds : ℕ) → List Line
+lookup_lines s seeds = lines_to6 s ++ line 13 (not (eqb seeds s.buckets)) ∷ []
 
 -- holes check 5, 13 (bitmap only), 15: hole list longer than its buffer
-unfoldable pub holesLines : (m : ℕ) → (bitmap : List ℕ) → (room : ℕ) → List Line
-holesLines m bitmap room =
+unfoldable pub holes_lines : (m : ℕ) → (bitmap : List ℕ) → (room : ℕ) → List Line
+holes_lines m bitmap room =
     line5 m
-    ∷ line 13 (not (eqb (length bitmap) (bitmapWords m)))
-    ∷ line 15 (ltb room (length (holesOf m bitmap)))
+    ∷ line 13 (not (eqb (length bitmap) (bitmap_words m)))
+    ∷ line 15 (ltb room (length (holes_of m bitmap)))
     ∷ []
 
 -- bucket count checks 3, 16: bucket size not in 1 to min(2^log2_slice_len/8, 64), NaN included; 17: k above 67,108,864
-unfoldable pub countLines : (log2SliceLen k : ℕ) → Float → List Line
-countLines log2SliceLen k size =
+unfoldable pub count_lines : (log2SliceLen k : ℕ) → Float → List Line
+count_lines log2SliceLen k size =
     line3 log2SliceLen
-    ∷ line 16 (not (sizeFits (sizeCap log2SliceLen) size))
+    ∷ line 16 (not (size_fits (size_cap log2SliceLen) size))
     ∷ line 17 (ltb 67108864 k)
     ∷ []

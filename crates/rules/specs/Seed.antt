@@ -1,7 +1,7 @@
 -- Rule S: one bucket's seed. Assumes nothing.
 use Rattle.std.specs.Prelude.{ℕ, ◌+◌, ◌-◌, ◌*◌, Bool, cond, not, ◌&&◌, List, [], ◌∷◌, ◌++◌, map, eqb, get_or}
-use Rattle.rules.specs.Lists.{below, filter, best, smaller, thenBy, sum, allFree, distinct}
-use Rattle.rules.specs.Geometry.{layouts, ringLen, rotations, first, position}
+use Rattle.rules.specs.Lists.{below, filter, best, smaller, then_by, sum, all_free, distinct}
+use Rattle.rules.specs.Geometry.{layouts, ring_len, rotations, first, position}
 use Rattle.rules.specs.Order.{Input, keys_of}
 
 -- a candidate (r,j)
@@ -18,24 +18,24 @@ rows n [] = []
 rows n (r ∷ rs) = row n r ++ rows n rs
 
 -- (0,0)
-unfoldable pub isFirst : Candidate → Bool
-isFirst c = eqb c.r 0 && eqb c.j 0
+unfoldable pub is_first : Candidate → Bool
+is_first c = eqb c.r 0 && eqb c.j 0
 
 module _ (i : Input) where
   -- (0,0) is barred when n = R
   unfoldable pub barred : Candidate → Bool
-  barred c = isFirst c && eqb (ringLen i.settings) (rotations i.settings)
+  barred c = is_first c && eqb (ring_len i.settings) (rotations i.settings)
 
   unfoldable pub unbarred : Candidate → Bool
   unbarred c = not (barred c)
 
   -- candidates are (r,j) with r < L, j < n
   unfoldable pub candidates : List Candidate
-  candidates = filter unbarred (rows (ringLen i.settings) (below (layouts i.settings)))
+  candidates = filter unbarred (rows (ring_len i.settings) (below (layouts i.settings)))
 
   -- its seed is j·L+r, and n·L for (0,0)
-  unfoldable pub seedOf : Candidate → ℕ
-  seedOf c = cond (isFirst c) (ringLen i.settings * layouts i.settings) (c.j * layouts i.settings + c.r)
+  unfoldable pub seed_of : Candidate → ℕ
+  seed_of c = cond (is_first c) (ring_len i.settings * layouts i.settings) (c.j * layouts i.settings + c.r)
 
   -- the positions of the bucket's keys under a seed
   unfoldable pub slots_of : (b v : ℕ) → List ℕ
@@ -43,7 +43,7 @@ module _ (i : Input) where
 
   -- all free and pairwise different
   unfoldable pub fits : (marked : List ℕ) → (b v : ℕ) → Bool
-  fits marked b v = allFree marked (slots_of b v) && distinct (slots_of b v)
+  fits marked b v = all_free marked (slots_of b v) && distinct (slots_of b v)
 
   -- table[position - first(b) + 95]
   unfoldable pub price : (b x : ℕ) → ℕ
@@ -55,20 +55,20 @@ module _ (i : Input) where
 
   -- by (cost, r, j)
   unfoldable pub cheaper : (b : ℕ) → Candidate → Candidate → Bool
-  cheaper b = thenBy (smaller (λ (c : Candidate). cost b (seedOf c))) (thenBy (smaller (λ (c : Candidate). c.r)) (smaller (λ (c : Candidate). c.j)))
+  cheaper b = then_by (smaller (λ (c : Candidate). cost b (seed_of c))) (then_by (smaller (λ (c : Candidate). c.r)) (smaller (λ (c : Candidate). c.j)))
 
   -- a candidate fits if its seed does
-  unfoldable pub candidateFits : (marked : List ℕ) → (b : ℕ) → Candidate → Bool
-  candidateFits marked b c = fits marked b (seedOf c)
+  unfoldable pub candidate_fits : (marked : List ℕ) → (b : ℕ) → Candidate → Bool
+  candidate_fits marked b c = fits marked b (seed_of c)
 
   unfoldable pub fitting : (marked : List ℕ) → (b : ℕ) → List Candidate
-  fitting marked b = filter (candidateFits marked b) candidates
+  fitting marked b = filter (candidate_fits marked b) candidates
 
   -- the seed of the least of a list of candidates, or 0
-  unfoldable pub seedOfLeast : (b : ℕ) → List Candidate → ℕ
-  seedOfLeast b [] = 0
-  seedOfLeast b (c ∷ cs) = seedOf (best (cheaper b) c cs)
+  unfoldable pub seed_of_least : (b : ℕ) → List Candidate → ℕ
+  seed_of_least b [] = 0
+  seed_of_least b (c ∷ cs) = seed_of (best (cheaper b) c cs)
 
   -- the bucket gets the least (cost, r, j) that fits, or 0
-  unfoldable pub seedFor : (marked : List ℕ) → (b : ℕ) → ℕ
-  seedFor marked b = seedOfLeast b (fitting marked b)
+  unfoldable pub seed_for : (marked : List ℕ) → (b : ℕ) → ℕ
+  seed_for marked b = seed_of_least b (fitting marked b)

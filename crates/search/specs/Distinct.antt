@@ -4,26 +4,26 @@ use Rattle.words.specs.Map.{slot}
 use Rattle.rules.specs.Lists.{distinct}
 use Rattle.rings.specs.declared.Ring.{Ring}
 use Rattle.rings.specs.Ring.{Shape}
-use Rattle.rings.specs.Keys.{Keys, costAt}
+use Rattle.rings.specs.Keys.{Keys, cost_at}
 use Rattle.rings.specs.Parts.{part}
 use Rattle.best.specs.declared.Best.{Best}
-use Rattle.best.specs.Best.{better, bestOf}
-use Rattle.best.specs.Prices.{Prices, isFree, Ended}
-use Rattle.search.specs.Slots.{slotsAt, Unused, Reached}
+use Rattle.best.specs.Best.{better, best_of}
+use Rattle.best.specs.Prices.{Prices, is_free, Ended}
+use Rattle.search.specs.Slots.{slots_at, Unused, Reached}
 use Rattle.search.specs.Rows.{row_at}
 
 -- rotation j is free, and its slots are pairwise different
-unfoldable pub isDistinct : (g : Ring) (start : ℕ) (keys free : List ℕ) (j : ℕ) → Bool
-isDistinct g start keys free j = isFree free j && distinct (slotsAt g start keys j)
+unfoldable pub is_distinct : (g : Ring) (start : ℕ) (keys free : List ℕ) (j : ℕ) → Bool
+is_distinct g start keys free j = is_free free j && distinct (slots_at g start keys j)
 
 -- rotation j of layout r where its slots are pairwise different and it costs less than the best so far
-unfoldable pub betterDistinct : (g : Ring) (table : List ℕ) (start : ℕ) (keys : List ℕ) (r j : ℕ) → Best → Best
-betterDistinct g table start keys r j b = cond (distinct (slotsAt g start keys j)) (better (costAt g table keys j) r j b) b
+unfoldable pub better_distinct : (g : Ring) (table : List ℕ) (start : ℕ) (keys : List ℕ) (r j : ℕ) → Best → Best
+better_distinct g table start keys r j b = cond (distinct (slots_at g start keys j)) (better (cost_at g table keys j) r j b) b
 
 -- the best of all layouts
-unfoldable pub bestDistinct : (g : Ring) (table work : List ℕ) (at size start to count layouts : ℕ) → Best
-bestDistinct g table work at size start to count layouts =
-    bestOf (λ (r : ℕ). costAt g table (row_at work at size r)) (λ (r : ℕ). isDistinct g start (row_at work at size r) (row_at work to count r)) g.n layouts
+unfoldable pub best_distinct : (g : Ring) (table work : List ℕ) (at size start to count layouts : ℕ) → Best
+best_distinct g table work at size start to count layouts =
+    best_of (λ (r : ℕ). cost_at g table (row_at work at size r)) (λ (r : ℕ). is_distinct g start (row_at work at size r) (row_at work to count r)) g.n layouts
 
 -- the keys work[a..a + size] of a layout
 pub record KeyRow (g : Ring) (table work : List ℕ) (a size start : ℕ) : Type 0 where

@@ -6,19 +6,19 @@ use Rattle.rules.specs.declared.Settings.{Settings}
 use Rattle.rules.specs.Lists.{elem, indicator}
 use Rattle.rules.specs.Geometry as G
 use Rattle.rules.specs.Order.{Input, keys_of}
-use Rattle.rules.specs.Seed.{seedFor}
+use Rattle.rules.specs.Seed.{seed_for}
 use Rattle.rules.specs.Sweep.{takes}
-use Rattle.rules.specs.Numbers.{bitmapWords}
+use Rattle.rules.specs.Numbers.{bitmap_words}
 use Rattle.rules.specs.Good.{Sound}
 use Rattle.geometry.specs.declared.shape.Geometry.{Geometry}
 use Rattle.geometry.specs.Shape.{Made}
 use Rattle.rings.specs.declared.Ring.{Ring}
 use Rattle.rings.specs.Columns.{Caches}
-use Rattle.rings.specs.Level.{levelRing}
+use Rattle.rings.specs.Level.{level_ring}
 
 -- the bitmap has exactly the marked slots
 pub record Marks (m : ℕ) (bitmap marked : List ℕ) : Type 0 where
-  pub len : length bitmap ≡ bitmapWords m
+  pub len : length bitmap ≡ bitmap_words m
   pub words : Words bitmap
   pub bits : (q : ℕ) → slot bitmap q ≡ indicator (elem q marked)
 
@@ -36,19 +36,19 @@ pub record Held (i : Input) (marked : List ℕ) (first b : ℕ) (bitmap work : L
   pub inside : b < i.settings.buckets
   pub near : Near i.settings first b
   pub marks : Marks i.settings.m bitmap marked
-  pub caches : Caches (levelRing i.settings) work bitmap first
+  pub caches : Caches (level_ring i.settings) work bitmap first
 
 -- the arguments of `search` are those of bucket b
 pub record Ready (i : Input) (marked : List ℕ) (first : ℕ) (g : Geometry) (ring : Ring) (table keys : List ℕ) (b z : ℕ) (bitmap work : List ℕ) : Type 0 where
   pub held : Held i marked first b bitmap work
   pub made : Made g
   pub settings : g.settings ≡ i.settings
-  pub level : ring ≡ levelRing i.settings
+  pub level : ring ≡ level_ring i.settings
   pub prices : table ≡ i.table
   pub hashes : keys ≡ keys_of i b
   pub few : length keys ≤ z
   pub most : z ≤ 4096
-  pub room : G.workWords i.settings z ≤ length work
+  pub room : G.work_words i.settings z ≤ length work
 
 pub record Searching (g : Geometry) (ring : Ring) (table keys : List ℕ) (b z : ℕ) (bitmap work : List ℕ) : Type 0 where
   pub i : Input
@@ -58,10 +58,10 @@ pub record Searching (g : Geometry) (ring : Ring) (table keys : List ℕ) (b z :
 
 -- the seed is rule S's, and its slots are added to bitmap and ring
 pub record Searched (i : Input) (marked : List ℕ) (first b : ℕ) (work : List ℕ) (seed : ℕ) (bitmap' work' : List ℕ) : Type 0 where
-  pub is : seed ≡ seedFor i marked b
+  pub is : seed ≡ seed_for i marked b
   pub small : seed < 65536
   pub marks : Marks i.settings.m bitmap' (takes i b seed ++ marked)
-  pub caches : Caches (levelRing i.settings) work' bitmap' first
+  pub caches : Caches (level_ring i.settings) work' bitmap' first
   pub len : length work' ≡ length work
 
 -- `search` promises it for every input, list and first slot that its arguments are those of

@@ -3,14 +3,14 @@
 use Rattle.std.specs.Prelude.{◌≡◌, ℕ, ◌/◌}
 use Rattle.std.proofs.Math.Path.{refl}
 use Rattle.std.proofs.Common.{sym, ap, ◌∙◌}
-use Rattle.integers.specs.Power.{logUp, leastFrom}
+use Rattle.integers.specs.Power.{log_up, least_from}
 use Rattle.rules.specs.declared.Settings.{Settings}
 use Rattle.rules.specs.Geometry as G
 use Rattle.geometry.specs.declared.shape.Geometry.{Geometry}
 use Rattle.geometry.specs.Shape.{Made}
 use Rattle.geometry.proofs.Sizes.{sized}
 use Rattle.rings.specs.declared.Ring.{Ring}
-use Rattle.rings.specs.Level.{levelRing}
+use Rattle.rings.specs.Level.{level_ring}
 
 -- slices of 1,024 slots, 4 layouts, seeds of 8 bits
 pub record Usual (g : Geometry) : Type 0 where
@@ -26,30 +26,30 @@ pub record UsualRing (ring : Ring) : Type 0 where
 
 -- ---- rule G
 
-module _ (s : Settings) (len : G.sliceLen s ≡ 1024) (ll : s.ll ≡ 2) (sb : s.sb ≡ 8) where
-  log_is : G.logLen s ≡ 10
-  unfolding G.logLen logUp leastFrom
+module _ (s : Settings) (len : G.slice_len s ≡ 1024) (ll : s.ll ≡ 2) (sb : s.sb ≡ 8) where
+  log_is : G.log_len s ≡ 10
+  unfolding G.log_len log_up least_from
   log_is = rw len refl
 
-  scale-is : G.scale s ≡ 2
+  scale_is : G.scale s ≡ 2
   unfolding G.scale
-  scale-is = rw (log_is, sb) refl
+  scale_is = rw (log_is, sb) refl
 
-  layouts-is : G.layouts s ≡ 4
+  layouts_is : G.layouts s ≡ 4
   unfolding G.layouts
-  layouts-is = rw ll refl
+  layouts_is = rw ll refl
 
-  stride-is : G.stride s ≡ 4
+  stride_is : G.stride s ≡ 4
   unfolding G.stride
-  stride-is = rw (scale-is, log_is, ll) refl
+  stride_is = rw (scale_is, log_is, ll) refl
 
-  ring-is : G.ringLen s ≡ 64
-  unfolding G.ringLen
-  ring-is = rw (len, stride-is) refl
+  ring_is : G.ring_len s ≡ 64
+  unfolding G.ring_len
+  ring_is = rw (len, stride_is) refl
 
-  rotations-is : G.rotations s ≡ 64
+  rotations_is : G.rotations s ≡ 64
   unfolding G.rotations
-  rotations-is = rw (layouts-is, sb) refl
+  rotations_is = rw (layouts_is, sb) refl
 
 -- ---- a geometry and a ring by their fields
 
@@ -58,34 +58,34 @@ shape_of : (g : Geometry) {l scale layouts bits stride ring rotations : ℕ} →
     → record { settings = g.settings; l = l; slices = g.slices; scale = scale; layouts = layouts; layout_bits = bits; stride = stride; ring = ring; rotations = rotations; q_hi = g.q_hi; q_lo = g.q_lo; per_bucket = g.per_bucket; slots = g.slots; entries = g.entries } ≡ g
 shape_of g el es ey eb et en er = rw (el, es, ey, eb, et, en, er) refl
 
-ring_of : (g : Ring) {t n rotations : ℕ} → t ≡ g.t → n ≡ g.n → rotations ≡ g.rotations → record { t = t; words = g.words; n = n; rotations = rotations } ≡ g
-ring_of g et en er = rw (et, en, er) refl
+ring_of_lem : (g : Ring) {t n rotations : ℕ} → t ≡ g.t → n ≡ g.n → rotations ≡ g.rotations → record { t = t; words = g.words; n = n; rotations = rotations } ≡ g
+ring_of_lem g et en er = rw (et, en, er) refl
 
 module _ {g : Geometry} (m : Made g) (u : Usual g) where
-  len_of : G.sliceLen g.settings ≡ 1024
-  len_of = sym (sized g m).l-is ∙ u.len
+  len_of : G.slice_len g.settings ≡ 1024
+  len_of = sym (sized g m).l_is ∙ u.len
 
-  layouts-of : g.layouts ≡ 4
+  layouts_of : g.layouts ≡ 4
   unfolding G.layouts
-  layouts-of = (sized g m).layouts-is ∙ layouts-is g.settings len_of u.ll u.sb
+  layouts_of = (sized g m).layouts_is ∙ layouts_is g.settings len_of u.ll u.sb
 
   bits_of : g.layout_bits ≡ 16
-  bits_of = (sized g m).bits_is ∙ ap (λ (x : ℕ). 64 / x) layouts-of
+  bits_of = (sized g m).bits_is ∙ ap (λ (x : ℕ). 64 / x) layouts_of
 
   -- the geometry with literals for what the compiler is to fold
-  pub literal-is : record { settings = g.settings; l = 1024; slices = g.slices; scale = 2; layouts = 4; layout_bits = 16; stride = 4; ring = 64; rotations = 64; q_hi = g.q_hi; q_lo = g.q_lo; per_bucket = g.per_bucket; slots = g.slots; entries = g.entries } ≡ g
-  literal-is =
-      shape_of g (sym u.len) (sym ((sized g m).scale-is ∙ scale-is g.settings len_of u.ll u.sb)) (sym layouts-of) (sym bits_of)
-      (sym ((sized g m).stride-is ∙ stride-is g.settings len_of u.ll u.sb)) (sym ((sized g m).ring-is ∙ ring-is g.settings len_of u.ll u.sb))
-      (sym ((sized g m).rotations-is ∙ rotations-is g.settings len_of u.ll u.sb))
+  pub literal_is : record { settings = g.settings; l = 1024; slices = g.slices; scale = 2; layouts = 4; layout_bits = 16; stride = 4; ring = 64; rotations = 64; q_hi = g.q_hi; q_lo = g.q_lo; per_bucket = g.per_bucket; slots = g.slots; entries = g.entries } ≡ g
+  literal_is =
+      shape_of g (sym u.len) (sym ((sized g m).scale_is ∙ scale_is g.settings len_of u.ll u.sb)) (sym layouts_of) (sym bits_of)
+      (sym ((sized g m).stride_is ∙ stride_is g.settings len_of u.ll u.sb)) (sym ((sized g m).ring_is ∙ ring_is g.settings len_of u.ll u.sb))
+      (sym ((sized g m).rotations_is ∙ rotations_is g.settings len_of u.ll u.sb))
 
-  pub usual-ring : {ring : Ring} → ring ≡ levelRing g.settings → UsualRing ring
-  unfolding levelRing
-  usual-ring e = rw e (record {
-    t = stride-is g.settings len_of u.ll u.sb;
-    n = ring-is g.settings len_of u.ll u.sb;
-    rotations = rotations-is g.settings len_of u.ll u.sb;
+  pub usual_ring : {ring : Ring} → ring ≡ level_ring g.settings → UsualRing ring
+  unfolding level_ring
+  usual_ring e = rw e (record {
+    t = stride_is g.settings len_of u.ll u.sb;
+    n = ring_is g.settings len_of u.ll u.sb;
+    rotations = rotations_is g.settings len_of u.ll u.sb;
   })
 
-pub literal-ring-is : {ring : Ring} → UsualRing ring → record { t = 4; words = ring.words; n = 64; rotations = 64 } ≡ ring
-literal-ring-is {ring} u = ring_of ring (sym u.t) (sym u.n) (sym u.rotations)
+pub literal_ring_is : {ring : Ring} → UsualRing ring → record { t = 4; words = ring.words; n = 64; rotations = 64 } ≡ ring
+literal_ring_is {ring} u = ring_of_lem ring (sym u.t) (sym u.n) (sym u.rotations)

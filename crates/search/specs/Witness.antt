@@ -6,31 +6,31 @@ use Rattle.std.proofs.lemmas.List.{length-replicate}
 use Rattle.rules.specs.declared.Settings.{Settings}
 use Rattle.rules.specs.Geometry as G
 use Rattle.rules.specs.Order.{Input, keys_of}
-use Rattle.rules.specs.Chunks.{inOne}
-use Rattle.rules.specs.Seed.{seedFor}
-use Rattle.rules.specs.Numbers.{first_of, sweepLines, bitmapWords}
+use Rattle.rules.specs.Chunks.{in_one}
+use Rattle.rules.specs.Seed.{seed_for}
+use Rattle.rules.specs.Numbers.{first_of, sweep_lines, bitmap_words}
 use Rattle.rules.specs.Good.{Sound}
 use Rattle.rules.proofs.InputLaws.{passes}
-use Rattle.rules.proofs.CheckLaws.{good-usable}
-use Rattle.rules.proofs.Sheets.{table, small, lentFor, runs}
-use Rattle.geometry.specs.Shape.{geometryOf}
+use Rattle.rules.proofs.CheckLaws.{good_usable}
+use Rattle.rules.proofs.Sheets.{table, small, lent_for, runs}
+use Rattle.geometry.specs.Shape.{geometry_of}
 use Rattle.geometry.proofs.Sizes.{made}
-use Rattle.rings.specs.Level.{levelRing}
-use Rattle.rings.specs.LevelLaws.{shape-level}
-use Rattle.rings.specs.CacheLaws.{caches-start}
+use Rattle.rings.specs.Level.{level_ring}
+use Rattle.rings.specs.LevelLaws.{shape_level}
+use Rattle.rings.specs.CacheLaws.{caches_start}
 use Rattle.search.specs.Searching.{Near, Searching}
-use Rattle.search.specs.MarksLaws.{marks-none}
+use Rattle.search.specs.MarksLaws.{marks_none}
 
 -- P4: keys 0 and 2^62 + 3
 unfoldable pub two : Input
 two = small 7 4 (0 ∷ (2 ^ 62 + 3) ∷ [])
 
-two-passes : first_of (sweepLines (inOne true) two (lentFor two)) ≡ 0
+two_passes : first_of (sweep_lines (in_one true) two (lent_for two)) ≡ 0
 unfolding two small table runs
-two-passes = refl
+two_passes = refl
 
-two-sound : Sound two
-two-sound = (passes two (inOne true) (lentFor two) two-passes).sound
+two_sound : Sound two
+two_sound = (passes two (in_one true) (lent_for two) two_passes).sound
 
 zeros : (n k : ℕ) → ◌≡◌ {A = ℕ} (get_or (replicate n 0) k 0) 0
 zeros zero k = refl
@@ -38,51 +38,51 @@ zeros (suc n) zero = refl
 zeros (suc n) (suc k) = zeros n k
 
 abbrev work : List ℕ
-work = replicate (G.workWords two.settings 2) 0
+work = replicate (G.work_words two.settings 2) 0
 
 abbrev bitmap : List ℕ
-bitmap = replicate (bitmapWords two.settings.m) 0
+bitmap = replicate (bitmap_words two.settings.m) 0
 
-two-inside : 0 < two.settings.buckets
+two_inside : 0 < two.settings.buckets
 unfolding two small
-two-inside = lit< tt
+two_inside = lit< tt
 
-two-near : Near two.settings 0 0
+two_near : Near two.settings 0 0
 unfolding two small runs
-two-near = record { o = 0; from = lit≤ tt; to = lit< tt; oldest = lit≤ tt; close = lit< tt }
+two_near = record { o = 0; from = lit≤ tt; to = lit< tt; oldest = lit≤ tt; close = lit< tt }
 
-two-few : length (keys_of two 0) ≤ 2
+two_few : length (keys_of two 0) ≤ 2
 unfolding two small runs
-two-few = lit≤ tt
+two_few = lit≤ tt
 
-geometry-settings : (s : Settings) → (geometryOf s).settings ≡ s
-unfolding geometryOf
-geometry-settings s = refl
+geometry_settings : (s : Settings) → (geometry_of s).settings ≡ s
+unfolding geometry_of
+geometry_settings s = refl
 
-pub two-searching : Searching (geometryOf two.settings) (levelRing two.settings) two.table (keys_of two 0) 0 2 bitmap work
-two-searching = record {
+pub two_searching : Searching (geometry_of two.settings) (level_ring two.settings) two.table (keys_of two 0) 0 2 bitmap work
+two_searching = record {
   i = two;
   marked = [];
   first = 0;
   ready = record {
     held = record {
-      sound = two-sound;
-      inside = two-inside;
-      near = two-near;
-      marks = marks-none two.settings.m;
-      caches = caches-start (levelRing two.settings) (shape-level two.settings two-sound.good) work bitmap (λ k h. zeros (G.workWords two.settings 2) k) (marks-none two.settings.m).bits;
+      sound = two_sound;
+      inside = two_inside;
+      near = two_near;
+      marks = marks_none two.settings.m;
+      caches = caches_start (level_ring two.settings) (shape_level two.settings two_sound.good) work bitmap (λ k h. zeros (G.work_words two.settings 2) k) (marks_none two.settings.m).bits;
     };
-    made = made two.settings (good-usable two.settings two-sound.good);
-    settings = geometry-settings two.settings;
+    made = made two.settings (good_usable two.settings two_sound.good);
+    settings = geometry_settings two.settings;
     level = refl;
     prices = refl;
     hashes = refl;
-    few = two-few;
+    few = two_few;
     most = lit≤ tt;
-    room = omega (arith, length-replicate {A = ℕ} (G.workWords two.settings 2) 0);
+    room = omega (arith, length-replicate {A = ℕ} (G.work_words two.settings 2) 0);
   };
 }
 
-pub two-seed : seedFor two [] 0 ≡ 4
+pub two_seed : seed_for two [] 0 ≡ 4
 unfolding two small table runs
-two-seed = refl
+two_seed = refl

@@ -1,11 +1,11 @@
 // The best rotation at which no two keys meet, found by one pass over the free ones: each is priced once, and placed on trial only where it costs less than
 // the best so far.
 ghost use Rattle.std.specs.Prelude.{◌≡◌, ◌*◌, ◌<◌};
-ghost use Rattle.rings.specs.Keys.{costAt};
+ghost use Rattle.rings.specs.Keys.{cost_at};
 ghost use Rattle.rings.specs.Parts.{part};
-ghost use Rattle.best.specs.Best.{bestFrom};
+ghost use Rattle.best.specs.Best.{best_from};
 ghost use Rattle.search.specs.Slots.{Unused};
-ghost use Rattle.search.specs.Distinct.{isDistinct, betterDistinct, bestDistinct, KeyRow, FreeRow, AllRows};
+ghost use Rattle.search.specs.Distinct.{is_distinct, better_distinct, best_distinct, KeyRow, FreeRow, AllRows};
 
 use best::Best;
 use best::price::cost;
@@ -27,7 +27,7 @@ fn better_distinct(
     requires key_row { KeyRow g table.now work.old a size start }
     requires j_lt_n { j < g.n }
     requires unused { Unused g work.old start (part work.old a size) j }
-    ensures { (result ≡ betterDistinct g table.now start (part work.old a size) r j best) × (work.new ≡ work.old) }
+    ensures { (result ≡ better_distinct g table.now start (part work.old a size) r j best) × (work.new ≡ work.old) }
 {
     let c = cost(g, table, &work[a..a + size], j);
     if best.cost <= c {
@@ -60,7 +60,7 @@ fn distinct_word(
     requires key_row { KeyRow g table.now work.old a size start }
     requires free_row { FreeRow g work.old a size start f count }
     requires w_lt_count { w < count }
-    ensures { (result ≡ bestFrom (costAt g table.now (part work.old a size)) (isDistinct g start (part work.old a size) (part work.old f count)) r before (64 * w) 64) × (work.new ≡ work.old) }
+    ensures { (result ≡ best_from (cost_at g table.now (part work.old a size)) (is_distinct g start (part work.old a size) (part work.old f count)) r before (64 * w) 64) × (work.new ≡ work.old) }
 {
     let mut best = before;
     let mut left = work[f + w];
@@ -87,7 +87,7 @@ fn distinct_layout(
 ) -> Best
     requires key_row { KeyRow g table.now work.old a size start }
     requires free_row { FreeRow g work.old a size start f count }
-    ensures { (result ≡ bestFrom (costAt g table.now (part work.old a size)) (isDistinct g start (part work.old a size) (part work.old f count)) r before 0 g.n) × (work.new ≡ work.old) }
+    ensures { (result ≡ best_from (cost_at g table.now (part work.old a size)) (is_distinct g start (part work.old a size) (part work.old f count)) r before 0 g.n) × (work.new ≡ work.old) }
 {
     let mut best = before;
     let mut w = 0;
@@ -111,7 +111,7 @@ pub fn best_distinct(
     layouts: usize,
 ) -> Best
     requires { AllRows g table.now work.old at size start to count layouts }
-    ensures { (result ≡ bestDistinct g table.now work.old at size start to count layouts) × (work.new ≡ work.old) }
+    ensures { (result ≡ best_distinct g table.now work.old at size start to count layouts) × (work.new ≡ work.old) }
 {
     let mut best = Best {
         cost: u64::MAX,

@@ -2,7 +2,7 @@
 ghost use Rattle.std.specs.Prelude.{◌≡◌, ◌+◌, ◌*◌};
 ghost use Rattle.rings.specs.Ring.{Shape};
 ghost use Rattle.rings.specs.Parts.{part};
-ghost use Rattle.best.specs.Prices.{bestFree};
+ghost use Rattle.best.specs.Prices.{best_free};
 ghost use Rattle.best.specs.Kept.{Kept};
 ghost use Rattle.best.specs.Looking.{Looking};
 ghost use Rattle.search.specs.Rows.{FreeWords};
@@ -39,7 +39,7 @@ pub fn best_free(
     total: u64,
 ) -> Best
     requires { Looking g table.now work.old at size to count layouts total }
-    ensures { (result ≡ bestFree g table.now (part work.old at (layouts * size)) size (part work.old to (layouts * count)) count layouts) × Kept (to + layouts * count) work.old work.new }
+    ensures { (result ≡ best_free g table.now (part work.old at (layouts * size)) size (part work.old to (layouts * count)) count layouts) × Kept (to + layouts * count) work.old work.new }
 {
     if total == 0 {
         return Best {

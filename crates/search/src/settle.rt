@@ -1,8 +1,8 @@
 // The rotation that a bucket gets: its slots marked, and its seed.
 ghost use Rattle.std.specs.Prelude.{◌≡◌, ◌<◌, ◌≤◌};
 ghost use Rattle.rings.specs.Parts.{part};
-ghost use Rattle.rings.specs.Place.{unmarkedTo};
-ghost use Rattle.search.specs.Settle.{Settling, MarkedBoth, Blank, Settled, SeedIs, clearedTo};
+ghost use Rattle.rings.specs.Place.{unmarked_to};
+ghost use Rattle.search.specs.Settle.{Settling, MarkedBoth, Blank, Settled, SeedIs, cleared_to};
 
 use crate::usual::{literal_ring, usual_ring};
 use rings::Ring;
@@ -67,7 +67,7 @@ fn unmark_both(
 )
     requires settling { Settling g work.old a size start j bitmap.old }
     requires count_le_size { count ≤ size }
-    ensures { (work.new ≡ unmarkedTo g work.old (part work.old a size) start j count) × (bitmap.new ≡ clearedTo g bitmap.old (part work.old a size) start j count) }
+    ensures { (work.new ≡ unmarked_to g work.old (part work.old a size) start j count) × (bitmap.new ≡ cleared_to g bitmap.old (part work.old a size) start j count) }
 {
     let mut i = count;
     while 0 < i {

@@ -9,7 +9,7 @@ use lib.ListN.{length, take, drop}
 use lib.Seq.{length-take-le, length_front, take-append-le, drop_at}
 use Rattle.rules.specs.Lists.{distinct}
 use Rattle.sorting.specs.Runs.{Sorts, twins}
-use Rattle.sorting.proofs.Twins.{sorted-twins}
+use Rattle.sorting.proofs.Twins.{sorted_twins}
 
 module _ (keys work run : List ℕ) (room : 2 * length keys ≤ length work) (kept : length run ≡ length (take (2 * length keys) work)) where
   run_length : length run ≡ 2 * length keys
@@ -20,7 +20,7 @@ module _ (keys work run : List ℕ) (room : 2 * length keys ≤ length work) (ke
 
   pub answer : Sorts keys (take (length keys) run) → (r : Bool) → r ≡ twins (take (length keys) (run ++ drop (2 * length keys) work))
       → r ≡ not (distinct keys)
-  answer s r e = e ∙ ap twins front ∙ sorted-twins keys (take (length keys) run) s
+  answer s r e = e ∙ ap twins front ∙ sorted_twins keys (take (length keys) run) s
 
   pub beyond : drop (2 * length keys) (run ++ drop (2 * length keys) work) ≡ drop (2 * length keys) work
   beyond = drop_at run (drop (2 * length keys) work) (2 * length keys) run_length

@@ -19,14 +19,14 @@ module _ (run : List ℕ) (i : ℕ) where
       ∙ ap (λ (l : List ℕ). starts (get_or run i 0) l || twins (drop (suc i) run)) (drop-cons run (suc i) 0 (omega arith))
       ∙ ap (λ (p : ℕ). eqb (get_or run i 0) (get_or run p 0) || twins (drop p run)) (sym (add-one i))
 
-  pub equal-pair : i + 1 < length run → get_or run i 0 ≡ get_or run (i + 1) 0 → twins (drop i run) ≡ true
-  equal-pair h e = pair h ∙ ap (λ (b : Bool). b || twins (drop (i + 1) run)) (eq-eqb (get_or run i 0) (get_or run (i + 1) 0) e)
+  pub equal_pair : i + 1 < length run → get_or run i 0 ≡ get_or run (i + 1) 0 → twins (drop i run) ≡ true
+  equal_pair h e = pair h ∙ ap (λ (b : Bool). b || twins (drop (i + 1) run)) (eq-eqb (get_or run i 0) (get_or run (i + 1) 0) e)
 
-  pub other-pair : i + 1 < length run → (get_or run i 0 ≡ get_or run (i + 1) 0 → ⊥) → twins (drop i run) ≡ twins (drop (i + 1) run)
-  other-pair h e = pair h ∙ ap (λ (b : Bool). b || twins (drop (i + 1) run)) (ne_eqb (get_or run i 0) (get_or run (i + 1) 0) e)
+  pub other_pair : i + 1 < length run → (get_or run i 0 ≡ get_or run (i + 1) 0 → ⊥) → twins (drop i run) ≡ twins (drop (i + 1) run)
+  other_pair h e = pair h ∙ ap (λ (b : Bool). b || twins (drop (i + 1) run)) (ne_eqb (get_or run i 0) (get_or run (i + 1) 0) e)
 
-  pub no-pair : length run ≤ i + 1 → twins (drop i run) ≡ false
-  no-pair h = go (drop i run) (omega (arith, length-drop i run))
+  pub no_pair : length run ≤ i + 1 → twins (drop i run) ≡ false
+  no_pair h = go (drop i run) (omega (arith, length-drop i run))
     where
       go : (l : List ℕ) → length l ≤ 1 → twins l ≡ false
       go [] k = refl

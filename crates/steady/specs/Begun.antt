@@ -11,8 +11,8 @@ pub record Begun (b : ℕ) (one other : List ℕ) : Type 0 where
   pub both : List ℕ
   pub rest : List ℕ
   pub rest' : List ℕ
-  pub one-is : one ≡ both ++ rest
-  pub other-is : other ≡ both ++ rest'
+  pub one_is : one ≡ both ++ rest
+  pub other_is : other ≡ both ++ rest'
   pub low : (x : ℕ) → T (elem x both) → x < b
   pub taken : (x : ℕ) → x + 255 < b → count x rest ≡ 0
   pub taken' : (x : ℕ) → x + 255 < b → count x rest' ≡ 0

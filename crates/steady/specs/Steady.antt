@@ -3,39 +3,39 @@ use Rattle.std.specs.Prelude.{◌≡◌, Bool, true, false, List, [], ◌∷◌,
 use Rattle.rules.specs.declared.SweepRecord.{SweepRecord}
 use Rattle.rules.specs.declared.How.{How}
 use Rattle.rules.specs.Order.{Input}
-use Rattle.rules.specs.Chunks.{chunkCount}
-use Rattle.rules.specs.Holes.{holesOf}
+use Rattle.rules.specs.Chunks.{chunk_count}
+use Rattle.rules.specs.Holes.{holes_of}
 use Rattle.rules.specs.Numbers.{Lent}
-use Rattle.rules.specs.Answers.{Said, Answer, Refusal, saidSweep}
+use Rattle.rules.specs.Answers.{Said, Answer, Refusal, said_sweep}
 use Rattle.steady.specs.Alike.{DifferIn, Reordered}
 
 -- no number was said: the sweep was accepted, and is done
-unfoldable pub isAnswer : Said → Bool
-isAnswer (Answer values) = true
-isAnswer (Refusal number named) = false
+unfoldable pub is_answer : Said → Bool
+is_answer (Answer values) = true
+is_answer (Refusal number named) = false
 
 unfoldable pub accepted : SweepRecord → Bool
-accepted r = isAnswer (saidSweep r)
+accepted r = is_answer (said_sweep r)
 
 -- the sweep got past the checks: it is done, or stopped at a bucket that it names (14)
-unfoldable pub isRun : Said → Bool
-isRun (Answer values) = true
-isRun (Refusal number []) = false
-isRun (Refusal number (b ∷ bs)) = true
+unfoldable pub is_run : Said → Bool
+is_run (Answer values) = true
+is_run (Refusal number []) = false
+is_run (Refusal number (b ∷ bs)) = true
 
 unfoldable pub ran : SweepRecord → Bool
-ran r = isRun (saidSweep r)
+ran r = is_run (said_sweep r)
 
 -- what two sweeps of m slots say and leave is the same: the record, each seed, each bit, each hole
 pub record SameLevel (m : ℕ) (r r' : SweepRecord) (seeds seeds' bitmap bitmap' : List ℕ) : Type 0 where
   pub record_same : r ≡ r'
-  pub seeds-same : seeds ≡ seeds'
-  pub bitmap-same : bitmap ≡ bitmap'
-  pub holes-same : holesOf m bitmap ≡ holesOf m bitmap'
+  pub seeds_same : seeds ≡ seeds'
+  pub bitmap_same : bitmap ≡ bitmap'
+  pub holes_same : holes_of m bitmap ≡ holes_of m bitmap'
 
 -- early pages stay put: both swept in one chunk and accepted, groups that differ only in bucket b, then all buckets numbered below b - 255 have the same seeds
 abbrev pub EarlyStay : (how : How) (i j : Input) (r r' : SweepRecord) (seeds seeds' : List ℕ) → Type 0
-EarlyStay how i j r r' seeds seeds' = chunkCount i.settings how.chunks ≡ 1 → (b : ℕ) → DifferIn b i j → T (accepted r) → T (accepted r') → (x : ℕ) → x + 255 < b → get_or seeds x 0 ≡ get_or seeds' x 0
+EarlyStay how i j r r' seeds seeds' = chunk_count i.settings how.chunks ≡ 1 → (b : ℕ) → DifferIn b i j → T (accepted r) → T (accepted r') → (x : ℕ) → x + 255 < b → get_or seeds x 0 ≡ get_or seeds' x 0
 
 module _ (i j : Input) (r r' : SweepRecord) where
   -- reordering keys inside buckets changes no seed, bit or hole, in any number of chunks

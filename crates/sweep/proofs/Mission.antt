@@ -11,47 +11,47 @@ use Rattle.rules.specs.declared.How.{How}
 use Rattle.rules.specs.declared.Counts.{Counts}
 use Rattle.rules.specs.declared.Named.TheVariants.{Bucket}
 use Rattle.rules.specs.declared.Outcome.TheVariants.{Done, Refused}
-use Rattle.rules.specs.Numbers.{lent_of, first_of, sweepLines}
-use Rattle.rules.specs.Order.{Input, byLowBits}
-use Rattle.rules.specs.Sweep.{finalSeeds, finalBitmap}
-use Rattle.rules.specs.Answers.{Said, Answer, Refusal, saidSweep, saidOutcome, named_by, unless, ranAnswer, countsOf, countValues, sweepTurns, stopsAt, sweepNumber, sweepAnswer}
+use Rattle.rules.specs.Numbers.{lent_of, first_of, sweep_lines}
+use Rattle.rules.specs.Order.{Input, by_low_bits}
+use Rattle.rules.specs.Sweep.{final_seeds, final_bitmap}
+use Rattle.rules.specs.Answers.{Said, Answer, Refusal, said_sweep, said_outcome, named_by, unless, ran_answer, counts_of, count_values, sweep_turns, stops_at, sweep_number, sweep_answer}
 use Rattle.rules.proofs.AnswerLaws as Laws
-use Rattle.rules.proofs.Theorems.{Swept, Stopped, swept-low, stopped}
+use Rattle.rules.proofs.Theorems.{Swept, Stopped, swept_low, stopped}
 use Rattle.sweep.specs.Performing.{Left}
 
 -- an answer is no refusal
-not-refused : (n : ℕ) (vs : List ℕ) (o : Option ℕ) (c : Counts) → Answer vs ≡ unless n (ranAnswer o c) → (n ≡ 0) × (o ≡ none)
-unfolding unless ranAnswer
-not-refused zero vs none c e = (refl, refl)
-not-refused zero vs (some b) c e = let z : ◌≡◌ {A = ℕ} 0 1 = cc in absurd (omega arith)
-not-refused (suc n) vs o c e = let z : ◌≡◌ {A = ℕ} 0 1 = cc in absurd (omega arith)
+not_refused : (n : ℕ) (vs : List ℕ) (o : Option ℕ) (c : Counts) → Answer vs ≡ unless n (ran_answer o c) → (n ≡ 0) × (o ≡ none)
+unfolding unless ran_answer
+not_refused zero vs none c e = (refl, refl)
+not_refused zero vs (some b) c e = let z : ◌≡◌ {A = ℕ} 0 1 = cc in absurd (omega arith)
+not_refused (suc n) vs o c e = let z : ◌≡◌ {A = ℕ} 0 1 = cc in absurd (omega arith)
 
 -- and a refusal that names a bucket is 14's
-named-bucket : (n k b : ℕ) (o : Option ℕ) (c : Counts) → Refusal k (b ∷ []) ≡ unless n (ranAnswer o c) → (n ≡ 0) × (o ≡ some b)
-unfolding unless ranAnswer
-named-bucket zero k b none c e = let z : ◌≡◌ {A = ℕ} 0 1 = cc in absurd (omega arith)
-named-bucket zero k b (some d) c e = (refl, cc)
-named-bucket (suc n) k b o c e = let z : ◌≡◌ {A = ℕ} 0 1 = cc in absurd (omega arith)
+named_bucket : (n k b : ℕ) (o : Option ℕ) (c : Counts) → Refusal k (b ∷ []) ≡ unless n (ran_answer o c) → (n ≡ 0) × (o ≡ some b)
+unfolding unless ran_answer
+named_bucket zero k b none c e = let z : ◌≡◌ {A = ℕ} 0 1 = cc in absurd (omega arith)
+named_bucket zero k b (some d) c e = (refl, cc)
+named_bucket (suc n) k b o c e = let z : ◌≡◌ {A = ℕ} 0 1 = cc in absurd (omega arith)
 
 -- what holds of a level that was swept to its end
 pub record Finished (chunks : ℕ) (i : Input) (c : Counts) (seeds' bitmap' : List ℕ) : Type 0 where
-  pub swept : Swept byLowBits chunks i
-  pub seeds-are : seeds' ≡ finalSeeds i (sweepTurns byLowBits chunks i)
-  pub bitmap-is : bitmap' ≡ finalBitmap i (sweepTurns byLowBits chunks i)
-  pub counts-are : countValues c ≡ countValues (countsOf i (finalSeeds i (sweepTurns byLowBits chunks i)))
+  pub swept : Swept by_low_bits chunks i
+  pub seeds_are : seeds' ≡ final_seeds i (sweep_turns by_low_bits chunks i)
+  pub bitmap_is : bitmap' ≡ final_bitmap i (sweep_turns by_low_bits chunks i)
+  pub counts_are : count_values c ≡ count_values (counts_of i (final_seeds i (sweep_turns by_low_bits chunks i)))
 
 pub finished : {i : Input} {how : How} {seeds bitmap work seeds' bitmap' work' : List ℕ} {c : Counts}
     → Left i how seeds bitmap work (record { outcome = Done c }) seeds' bitmap' work' → Words i.hashes → Finished how.chunks i c seeds' bitmap'
-unfolding saidSweep saidOutcome sweepAnswer sweepNumber
+unfolding said_sweep said_outcome sweep_answer sweep_number
 finished {i} {how} {seeds} {bitmap} {work} {c = c} l w =
-    let n = first_of (sweepLines how i (lent_of seeds bitmap work)) in
-    let r = not-refused n (countValues c) (stopsAt byLowBits how i) (countsOf i (finalSeeds i (sweepTurns byLowBits how.chunks i))) l.answer in
-    let d = Laws.sweep-done byLowBits how i (lent_of seeds bitmap work) seeds bitmap work r.0 r.1 in
+    let n = first_of (sweep_lines how i (lent_of seeds bitmap work)) in
+    let r = not_refused n (count_values c) (stops_at by_low_bits how i) (counts_of i (final_seeds i (sweep_turns by_low_bits how.chunks i))) l.answer in
+    let d = Laws.sweep_done by_low_bits how i (lent_of seeds bitmap work) seeds bitmap work r.0 r.1 in
     record {
-      swept = swept-low how i (lent_of seeds bitmap work) r.0 w;
-      seeds-are = l.given ∙ d.seeds-are;
-      bitmap-is = l.marked ∙ d.bitmap-is;
-      counts-are = values (l.answer ∙ d.said-is);
+      swept = swept_low how i (lent_of seeds bitmap work) r.0 w;
+      seeds_are = l.given ∙ d.seeds_are;
+      bitmap_is = l.marked ∙ d.bitmap_is;
+      counts_are = values (l.answer ∙ d.said_is);
     }
   where
     values : {vs us : List ℕ} → Answer vs ≡ Answer us → vs ≡ us
@@ -59,9 +59,9 @@ finished {i} {how} {seeds} {bitmap} {work} {c = c} l w =
 
 -- and of one that ended at a bucket that nothing fits, bumping forbidden
 pub halted : {i : Input} {how : How} {seeds bitmap work seeds' bitmap' work' : List ℕ} {k b : ℕ}
-    → Left i how seeds bitmap work (record { outcome = Refused k (Bucket b) }) seeds' bitmap' work' → Words i.hashes → Stopped byLowBits how.chunks i b
-unfolding saidSweep saidOutcome named_by sweepAnswer sweepNumber
+    → Left i how seeds bitmap work (record { outcome = Refused k (Bucket b) }) seeds' bitmap' work' → Words i.hashes → Stopped by_low_bits how.chunks i b
+unfolding said_sweep said_outcome named_by sweep_answer sweep_number
 halted {i} {how} {seeds} {bitmap} {work} {k = k} {b = b} l w =
-    let n = first_of (sweepLines how i (lent_of seeds bitmap work)) in
-    let r = named-bucket n k b (stopsAt byLowBits how i) (countsOf i (finalSeeds i (sweepTurns byLowBits how.chunks i))) l.answer in
-    stopped byLowBits how i (lent_of seeds bitmap work) r.0 w b r.1
+    let n = first_of (sweep_lines how i (lent_of seeds bitmap work)) in
+    let r = named_bucket n k b (stops_at by_low_bits how i) (counts_of i (final_seeds i (sweep_turns by_low_bits how.chunks i))) l.answer in
+    stopped by_low_bits how i (lent_of seeds bitmap work) r.0 w b r.1

@@ -3,7 +3,7 @@ use Rattle.std.specs.Prelude.{◌≡◌, List, ℕ, ◌+◌, ◌*◌, ◌^◌, �
 use Rattle.rules.specs.declared.Counts.{Counts}
 use Rattle.rules.specs.Lists.{below, total}
 use Rattle.rules.specs.Order.{Input}
-use Rattle.rules.specs.Answers.{placedKeys, bumpedKeys, zeroBucket}
+use Rattle.rules.specs.Answers.{placed_keys, bumped_keys, zero_bucket}
 
 -- begins has a place for n buckets and does not fall over them; they are few enough to count
 pub record Regular (begins : List ℕ) (n : ℕ) : Type 0 where
@@ -13,6 +13,6 @@ pub record Regular (begins : List ℕ) (n : ℕ) : Type 0 where
 
 -- c counts the first n buckets of any input with these begins
 pub record Counted (begins seeds : List ℕ) (n : ℕ) (c : Counts) : Type 0 where
-  pub placed : (i : Input) → i.begins ≡ begins → c.placed ≡ total (placedKeys i seeds) (below n)
-  pub bumped : (i : Input) → i.begins ≡ begins → c.bumped ≡ total (bumpedKeys i seeds) (below n)
-  pub zero : (i : Input) → i.begins ≡ begins → c.zero ≡ total (zeroBucket i seeds) (below n)
+  pub placed : (i : Input) → i.begins ≡ begins → c.placed ≡ total (placed_keys i seeds) (below n)
+  pub bumped : (i : Input) → i.begins ≡ begins → c.bumped ≡ total (bumped_keys i seeds) (below n)
+  pub zero : (i : Input) → i.begins ≡ begins → c.zero ≡ total (zero_bucket i seeds) (below n)

@@ -2,8 +2,8 @@
 // and the record out.
 ghost use Rattle.std.specs.Prelude.{◌≡◌, length};
 ghost use Rattle.rules.specs.Numbers.{lent_of};
-ghost use Rattle.rules.specs.Order.{byLowBits, input_of};
-ghost use Rattle.rules.specs.Answers.{saidSweep, sweepAnswer, sweepSeeds, sweepBitmap, sweepWork};
+ghost use Rattle.rules.specs.Order.{by_low_bits, input_of};
+ghost use Rattle.rules.specs.Answers.{said_sweep, sweep_answer, sweep_seeds, sweep_bitmap, sweep_work};
 ghost use Rattle.sweep.specs.Performing.{Performing, Left};
 
 pub mod chunks;
@@ -93,13 +93,13 @@ pub fn sweep(
     bitmap: &mut [u64],
     work: &mut [u64],
 ) -> SweepRecord
-    ensures answer { saidSweep result ≡ sweepAnswer byLowBits how (input_of settings weights hashes.now begins.now table.now)
+    ensures answer { said_sweep result ≡ sweep_answer by_low_bits how (input_of settings weights hashes.now begins.now table.now)
         (lent_of seeds.old bitmap.old work.old) }
-    ensures given { seeds.new ≡ sweepSeeds byLowBits how (input_of settings weights hashes.now begins.now table.now)
+    ensures given { seeds.new ≡ sweep_seeds by_low_bits how (input_of settings weights hashes.now begins.now table.now)
         (lent_of seeds.old bitmap.old work.old) seeds.old }
-    ensures marked { bitmap.new ≡ sweepBitmap byLowBits how (input_of settings weights hashes.now begins.now table.now)
+    ensures marked { bitmap.new ≡ sweep_bitmap by_low_bits how (input_of settings weights hashes.now begins.now table.now)
         (lent_of seeds.old bitmap.old work.old) bitmap.old }
-    ensures worked { work.new ≡ sweepWork how (input_of settings weights hashes.now begins.now table.now)
+    ensures worked { work.new ≡ sweep_work how (input_of settings weights hashes.now begins.now table.now)
         (lent_of seeds.old bitmap.old work.old) work.old }
 {
     let v = check_all(

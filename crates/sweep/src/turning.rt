@@ -1,9 +1,9 @@
 // The turns of a sweep: each takes a bucket, gives it its seed and marks its slots.
 ghost use Rattle.std.specs.Prelude.{◌≡◌, List, ℕ, ◌+◌, ◌≤◌, ◌<◌, length};
 ghost use Rattle.rules.specs.Order.{Input, input_of};
-ghost use Rattle.rings.specs.Level.{levelRing};
+ghost use Rattle.rings.specs.Level.{level_ring};
 ghost use Rattle.window.specs.Window.{state};
-ghost use Rattle.sweep.specs.Sweeping.{viewAt, Level, Buffers, Starting, Ending, Begun, Next, Ranging, Blank, Ran};
+ghost use Rattle.sweep.specs.Sweeping.{view_at, Level, Buffers, Starting, Ending, Begun, Next, Ranging, Blank, Ran};
 ghost use Rattle.sweep.specs.Serving.{Serves, Turn, Served};
 
 use super::chunks::{chunk_count, chunk_gap, range_at};
@@ -37,7 +37,7 @@ fn serve(
     bitmap: &mut [u64],
     work: &mut [u64],
 ) -> usize
-    requires ring_value { ring ≡ levelRing g.settings }
+    requires ring_value { ring ≡ level_ring g.settings }
     requires serves { Serves g hashes.now begins.now table.now b z seeds.old bitmap.old work.old }
     ensures { (i : Input) (pre : List ℕ) (lo hi k first : ℕ)
         → Level i g hashes.now begins.now table.now z
@@ -74,12 +74,12 @@ pub fn take_turns(
     bitmap: &mut [u64],
     work: &mut [u64],
 ) -> Ended
-    requires ring_value { ring ≡ levelRing g.settings }
+    requires ring_value { ring ≡ level_ring g.settings }
     requires begun { Begun g bump hashes.now begins.now table.now weights.now lo hi from z
-        (state queues.old heads.old lengths.old keys.old set.old (viewAt lo)) seeds.old bitmap.old work.old }
+        (state queues.old heads.old lengths.old keys.old set.old (view_at lo)) seeds.old bitmap.old work.old }
     ensures { (i : Input) (pre : List ℕ)
         → Starting i g bump hashes.now begins.now table.now weights.now pre lo hi from z
-        (state queues.old heads.old lengths.old keys.old set.old (viewAt lo)) seeds.old bitmap.old work.old
+        (state queues.old heads.old lengths.old keys.old set.old (view_at lo)) seeds.old bitmap.old work.old
         → Ending i bump pre lo hi result seeds.new bitmap.new }
 {
     let mut turn: usize = 0;
@@ -125,7 +125,7 @@ pub fn run_range(
     bitmap: &mut [u64],
     work: &mut [u64],
 ) -> Ended
-    requires ring_value { ring ≡ levelRing g.settings }
+    requires ring_value { ring ≡ level_ring g.settings }
     requires ranging { Ranging g bump hashes.now begins.now table.now weights.now lo hi z seeds.old bitmap.old work.old }
     ensures { (i : Input) (pre : List ℕ)
         → Next i g bump hashes.now begins.now table.now weights.now pre lo hi z seeds.old bitmap.old work.old

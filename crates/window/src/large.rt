@@ -1,6 +1,6 @@
 ghost use Rattle.std.specs.Prelude.{◌≡◌, ◌+◌, ◌-◌, ◌≤◌, ◌<◌, ◌^◌, nat_abs, length};
-ghost use Rattle.groups.specs.Groups.{sizeIn};
-ghost use Rattle.window.specs.Large.{keyIn, betterOf, first_of, Measured, Searched, Told, Largest, Left};
+ghost use Rattle.groups.specs.Groups.{size_in};
+ghost use Rattle.window.specs.Large.{key_in, better_of, first_of, Measured, Searched, Told, Largest, Left};
 
 use crate::rule;
 
@@ -19,7 +19,7 @@ fn better(set: &[u64; 16], w6: i64, w7: i64, best: Best, size: usize, b: usize) 
     requires set_len { length set.now ≡ 16 }
     requires w6_bound { (nat_abs w6 ≤ 2 ^ 32) × (nat_abs w7 ≤ 2 ^ 32) }
     requires size_bound { (size ≤ 4096) × (b < 134217728) }
-    ensures { result ≡ betterOf set.now w6 w7 best size b }
+    ensures { result ≡ better_of set.now w6 w7 best size b }
 {
     if size < 64 {
         return best;
@@ -58,8 +58,8 @@ fn largest(set: &[u64; 16], begins: &[u32], table: &[i64; 64], o: usize, e: usiz
 // The key of bucket `b` of 64 keys and more.
 fn key_of(begins: &[u32], table: &[i64; 64], b: usize) -> i64
     requires measured { Measured begins.now table.now (b + 1) }
-    requires bound { 64 ≤ sizeIn begins.now b }
-    ensures { result ≡ keyIn begins.now table.now b }
+    requires bound { 64 ≤ size_in begins.now b }
+    ensures { result ≡ key_in begins.now table.now b }
 {
     let size = groups::size_of(begins, b);
     let w = rule::beyond(table[6], table[7], size);
@@ -68,8 +68,8 @@ fn key_of(begins: &[u32], table: &[i64; 64], b: usize) -> i64
 
 // The key of the bucket that `large` tells.
 pub fn key_told(begins: &[u32], table: &[i64; 64], large: usize) -> i64
-    requires { 0 < large → Measured begins.now table.now large × (64 ≤ sizeIn begins.now (large - 1)) }
-    ensures { 0 < large → result ≡ keyIn begins.now table.now (large - 1) }
+    requires { 0 < large → Measured begins.now table.now large × (64 ≤ size_in begins.now (large - 1)) }
+    ensures { 0 < large → result ≡ key_in begins.now table.now (large - 1) }
 {
     if large == 0 {
         return 0;
@@ -80,7 +80,7 @@ pub fn key_told(begins: &[u32], table: &[i64; 64], large: usize) -> i64
 // The one of `large` and bucket `b` that goes first.
 pub fn first_of(begins: &[u32], table: &[i64; 64], large: usize, b: usize) -> usize
     requires measured { Measured begins.now table.now (b + 1) }
-    requires bound { 64 ≤ sizeIn begins.now b }
+    requires bound { 64 ≤ size_in begins.now b }
     requires told { Told begins.now b large }
     ensures { result ≡ first_of begins.now table.now large b }
 {

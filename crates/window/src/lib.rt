@@ -1,8 +1,8 @@
 ghost use Rattle.std.specs.Prelude.{◌≡◌, ◌&&◌, List, ℕ, ◌+◌, ◌≤◌, ◌<◌, ◌^◌, min, eqb};
 ghost use Rattle.rules.specs.Order.{Input};
-ghost use Rattle.window.specs.Queues.{queuesOf};
+ghost use Rattle.window.specs.Queues.{queues_of};
 ghost use Rattle.window.specs.Changes.{Enterable, Entered, Choice, Poppable, Popping};
-ghost use Rattle.window.specs.Window.{state, stateAt, Ranged, Window, Windowed, Full, Turned, Entering, Waiting, Filled};
+ghost use Rattle.window.specs.Window.{state, state_at, Ranged, Window, Windowed, Full, Turned, Entering, Waiting, Filled};
 
 pub mod buckets;
 pub mod cyclic;
@@ -74,10 +74,10 @@ fn enter(
     b: usize,
     size: usize,
 ) -> Held
-    requires { Enterable table.now (queuesOf queues.old heads.now lengths.old keys.old on) set.old begins.now n b size }
+    requires { Enterable table.now (queues_of queues.old heads.now lengths.old keys.old on) set.old begins.now n b size }
     ensures { Entered table.now
-        (queuesOf queues.old heads.now lengths.old keys.old on) set.old begins.now n b size
-        (queuesOf queues.new heads.now lengths.new keys.new result.nonempty) set.new result.large }
+        (queues_of queues.old heads.now lengths.old keys.old on) set.old begins.now n b size
+        (queues_of queues.new heads.now lengths.new keys.new result.nonempty) set.new result.large }
 {
     if size == 0 {
         return Held {
@@ -203,10 +203,10 @@ fn pop(
     n: usize,
     oldest: usize,
 ) -> Popped
-    requires { Poppable table.now (queuesOf queues.now heads.old lengths.old keys.old on) begins.now n oldest }
+    requires { Poppable table.now (queues_of queues.now heads.old lengths.old keys.old on) begins.now n oldest }
     ensures { Popping table.now
-        (queuesOf queues.now heads.old lengths.old keys.old on) begins.now n oldest result.bucket
-        (queuesOf queues.now heads.new lengths.new keys.new result.nonempty) }
+        (queues_of queues.now heads.old lengths.old keys.old on) begins.now n oldest result.bucket
+        (queues_of queues.now heads.new lengths.new keys.new result.nonempty) }
 {
     let k = large::key_told(begins, table, n);
     let size = whose(keys, on, n, k);

@@ -7,8 +7,8 @@ use native.Mathlib.Omega.{arith}
 use lib.IntN.{ℤ, pos, nat_abs}
 use lib.ListN.{length, get_or, set, replicate, length-set, get_or-replicate, get_or-eq_default}
 use lib.Seq.{get_or-set_same, get_or-set_other}
-use Rattle.words.specs.Cases.{same_or_not, lt-or-ge}
-use Rattle.groups.specs.Groups.{sizeIn}
+use Rattle.words.specs.Cases.{same_or_not, lt_or_ge}
+use Rattle.groups.specs.Groups.{size_in}
 use Rattle.window.specs.Key.{Within}
 use Rattle.window_runs.specs.Sized.{Sized}
 
@@ -20,7 +20,7 @@ pub record Grown (out : List ℕ) (x total b : ℕ) : Type 0 where
   pub few : total ≤ 4096 * b
   pub last : get_or out b 0 ≡ total
   pub rises : (j : ℕ) → j < b → get_or out j 0 ≤ get_or out (j + 1) 0
-  pub sizes : (j : ℕ) → j < b → sizeIn out j ≤ 4096
+  pub sizes : (j : ℕ) → j < b → size_in out j ≤ 4096
 
 pub none_yet : (out : List ℕ) (x : ℕ) → length out ≡ 1401 → x < 1000 → Grown (set out 0 0) x 0 0
 none_yet out x long l =
@@ -66,8 +66,8 @@ all_there out x total b h l =
     record { long = h.long; rises = λ j m. h.rises j (omega (arith, h.low)); sizes = λ j m. h.sizes j (omega (arith, h.low)) }
 
 -- weights stay within their bounds
-pub within-set : (ws : List ℤ) (k : ℕ) (z : ℤ) → k < length ws → Within ws → nat_abs z ≤ 2 ^ 32 → Within (set ws k z)
-within-set ws k z l h m =
+pub within_set : (ws : List ℤ) (k : ℕ) (z : ℤ) → k < length ws → Within ws → nat_abs z ≤ 2 ^ 32 → Within (set ws k z)
+within_set ws k z l h m =
     record {
       within =
           λ j.
@@ -77,7 +77,7 @@ within-set ws k z l h m =
     }
 
 pub within_none : Within (replicate 7 (pos 0))
-within_none = record { within = λ j. ⊎_elim (λ (l : j < 7). subst (λ (v : ℤ). nat_abs v ≤ 2 ^ 32) (sym (get_or-replicate 7 j (pos 0) (pos 0) l)) (omega arith)) (λ (l : 7 ≤ j). subst (λ (v : ℤ). nat_abs v ≤ 2 ^ 32) (sym (past j l)) (omega arith)) (lt-or-ge j 7) }
+within_none = record { within = λ j. ⊎_elim (λ (l : j < 7). subst (λ (v : ℤ). nat_abs v ≤ 2 ^ 32) (sym (get_or-replicate 7 j (pos 0) (pos 0) l)) (omega arith)) (λ (l : 7 ≤ j). subst (λ (v : ℤ). nat_abs v ≤ 2 ^ 32) (sym (past j l)) (omega arith)) (lt_or_ge j 7) }
   where
     past : (j : ℕ) → 7 ≤ j → get_or (replicate 7 (pos 0)) j (pos 0) ≡ pos 0
     past j l = get_or-eq_default (replicate 7 (pos 0)) (pos 0) {n = j} l

@@ -6,6 +6,6 @@ unfoldable pub bit : ℕ → ℕ → ℕ
 bit w i = w / 2 ^ i % 2
 
 -- how many of the bits below k are set
-unfoldable pub setBelow : ℕ → ℕ → ℕ
-setBelow zero w = 0
-setBelow (suc k) w = setBelow k w + bit w k
+unfoldable pub set_below : ℕ → ℕ → ℕ
+set_below zero w = 0
+set_below (suc k) w = set_below k w + bit w k

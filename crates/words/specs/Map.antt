@@ -14,20 +14,20 @@ unfoldable pub slot : List ℕ → ℕ → ℕ
 slot ws p = bit (get_or ws (p / 64) 0) (p % 64)
 
 -- bit i of word w set
-unfoldable pub markedAt : List ℕ → ℕ → ℕ → List ℕ
-markedAt ws w i = set ws w (bit_or (get_or ws w 0) (2 ^ i))
+unfoldable pub marked_at : List ℕ → ℕ → ℕ → List ℕ
+marked_at ws w i = set ws w (bit_or (get_or ws w 0) (2 ^ i))
 
 -- bit i of word w cleared
-unfoldable pub clearedAt : List ℕ → ℕ → ℕ → List ℕ
-clearedAt ws w i = set ws w (bit_and (get_or ws w 0) ((2 ^ 64 - 1) - 2 ^ i))
+unfoldable pub cleared_at : List ℕ → ℕ → ℕ → List ℕ
+cleared_at ws w i = set ws w (bit_and (get_or ws w 0) ((2 ^ 64 - 1) - 2 ^ i))
 
 -- slot p marked
 unfoldable pub marked : List ℕ → ℕ → List ℕ
-marked ws p = markedAt ws (p / 64) (p % 64)
+marked ws p = marked_at ws (p / 64) (p % 64)
 
 -- slot p cleared
 unfoldable pub cleared : List ℕ → ℕ → List ℕ
-cleared ws p = clearedAt ws (p / 64) (p % 64)
+cleared ws p = cleared_at ws (p / 64) (p % 64)
 
 -- how many of the slots below n are marked
 unfoldable pub tally : List ℕ → ℕ → ℕ
@@ -35,6 +35,6 @@ tally ws zero = 0
 tally ws (suc n) = tally ws n + slot ws n
 
 -- the set bits of the first k words
-unfoldable pub onesTo : List ℕ → ℕ → ℕ
-onesTo ws zero = 0
-onesTo ws (suc k) = onesTo ws k + ones (get_or ws k 0)
+unfoldable pub ones_to : List ℕ → ℕ → ℕ
+ones_to ws zero = 0
+ones_to ws (suc k) = ones_to ws k + ones (get_or ws k 0)

@@ -1,7 +1,7 @@
 // Bits of 64-bit words, and a slice of words as a map of slots: slot p is bit p % 64 of word p / 64.
 ghost use Rattle.std.specs.Prelude.{◌≡◌, ℕ, ◌*◌, ◌<◌, ◌≤◌, length, eqb};
 ghost use Rattle.words.specs.Map.{slot, marked, cleared};
-ghost use Rattle.words.specs.Next.{nextSet};
+ghost use Rattle.words.specs.Next.{next_set};
 
 // Whether slot p is marked.
 pub fn is_occupied(bits: &[u64], p: usize) -> bool
@@ -30,7 +30,7 @@ pub fn clear_bit(bits: &mut [u64], p: usize)
 // The first marked slot from begin on and below end, or end where there is none.
 pub fn next_set(bits: &[u64], begin: usize, end: usize) -> usize
     requires { (begin ≤ end) × (end ≤ 64 * length bits.now) }
-    ensures { (result ≡ nextSet bits.now begin end) × (begin ≤ result) × (result ≤ end) }
+    ensures { (result ≡ next_set bits.now begin end) × (begin ≤ result) × (result ≤ end) }
 {
     if begin == end {
         return end;

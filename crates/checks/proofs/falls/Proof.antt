@@ -1,5 +1,5 @@
-use Rattle.checks.proofs.Every.{every-each, every-fails}
-use Rattle.rules.specs.Numbers.{stepUp, rising}
+use Rattle.checks.proofs.Every.{every_each, every_fails}
+use Rattle.rules.specs.Numbers.{step_up, rising}
 use lib.Dec.{leb}
 use lib.ListN.{length, get_or}
 use Prim.Native.Nat.{ℕ, ◌+◌, ◌-◌, ◌<◌, ◌≤◌}
@@ -15,7 +15,7 @@ use Rattle.checks.proofs.falls.Reads as reads
 use Rattle.checks.proofs.falls.Lts as lts
 
 abbrev invariant-loop : tie.invariant-loop
-invariant-loop xs n k₀ k = (k ≤ n) × ((b : ℕ) → b < k → stepUp xs b ≡ true)
+invariant-loop xs n k₀ k = (k ≤ n) × ((b : ℕ) → b < k → step_up xs b ≡ true)
 
 abbrev decreases-loop : tie.decreases-loop
 decreases-loop xs n k₀ k = n - k
@@ -46,8 +46,8 @@ shared-slice-read-if1-2 c = search rules
 
 -- src/lib.rt:35:13
 returns : tie.Need-returns invariant-loop decreases-loop
-unfolding rising stepUp
-returns c = ap not (sym (every-fails (stepUp c.before.before.before.before.before.args.xs.now) c.before.before.before.before.before.args.n c.before.before.before.before.loop.k c.before.before.before.loop-test.true (lt-leb _ _ c.if1.true)))
+unfolding rising step_up
+returns c = ap not (sym (every_fails (step_up c.before.before.before.before.before.args.xs.now) c.before.before.before.before.before.args.n c.before.before.before.before.loop.k c.before.before.before.loop-test.true (lt-leb _ _ c.if1.true)))
 
 -- src/lib.rt:37:9
 add-k : tie.Need-overflow-add-k invariant-loop decreases-loop
@@ -59,13 +59,13 @@ loop-less c = search rules
 
 -- src/lib.rt:33:5
 loop-again : tie.Need-loop-preserved invariant-loop decreases-loop
-unfolding stepUp
+unfolding step_up
 loop-again c = (omega arith, below_more _ c.before.before.before.before.loop.k c.before.before.before.before.loop.invariant.1 (le-leb _ _ c.if1.false))
 
 -- src/lib.rt:28:1
 returns-2 : tie.Need-returns-2 invariant-loop decreases-loop
 unfolding rising
-returns-2 c = ap not (sym (every-each (stepUp c.before.before.args.xs.now) c.before.before.args.n (λ k h. c.before.loop.invariant.1 k (omega arith))))
+returns-2 c = ap not (sym (every_each (step_up c.before.before.args.xs.now) c.before.before.args.n (λ k h. c.before.loop.invariant.1 k (omega arith))))
 
 pub falls-spec : {M : Type 1} → statement M
 falls-spec =

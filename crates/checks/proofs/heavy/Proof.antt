@@ -1,5 +1,5 @@
-use Rattle.checks.proofs.Weights.{too-high, too-low, within}
-use Rattle.checks.proofs.Every.{every-list, list-fails}
+use Rattle.checks.proofs.Weights.{too_high, too_low, within}
+use Rattle.checks.proofs.Every.{every_list, list_fails}
 use Rattle.rules.specs.Numbers.{moderate}
 use lib.IntN.{pos}
 use lib.ListN.{length, get_or}
@@ -34,11 +34,11 @@ array-copy-out-w c = search rules
 
 -- src/lib.rt:17:13
 returns : tie.Need-returns invariant-loop decreases-loop
-returns c = ap not (sym (list-fails moderate (pos 0) c.before.before.before.before.args.t1 c.before.before.before.loop.k (omega (arith, c.before.before.before.before.well-formed.0.1.0.1)) (too-high _ c.before.w.given c.if1.true)))
+returns c = ap not (sym (list_fails moderate (pos 0) c.before.before.before.before.args.t1 c.before.before.before.loop.k (omega (arith, c.before.before.before.before.well-formed.0.1.0.1)) (too_high _ c.before.w.given c.if1.true)))
 
 -- src/lib.rt:20:13
 returns-2 : tie.Need-returns-2 invariant-loop decreases-loop
-returns-2 c = ap not (sym (list-fails moderate (pos 0) c.before.before.before.before.before.args.t1 c.before.before.before.before.loop.k (omega (arith, c.before.before.before.before.before.well-formed.0.1.0.1)) (too-low _ c.before.before.w.given c.if2.true)))
+returns-2 c = ap not (sym (list_fails moderate (pos 0) c.before.before.before.before.before.args.t1 c.before.before.before.before.loop.k (omega (arith, c.before.before.before.before.before.well-formed.0.1.0.1)) (too_low _ c.before.before.w.given c.if2.true)))
 
 -- src/lib.rt:22:9
 add-k : tie.Need-overflow-add-k invariant-loop decreases-loop
@@ -54,7 +54,7 @@ loop-again c = (omega arith, below_more _ c.before.before.before.before.loop.k c
 
 -- src/lib.rt:10:1
 returns-3 : tie.Need-returns-3 invariant-loop decreases-loop
-returns-3 c = ap not (sym (every-list moderate (pos 0) c.before.before.args.t1 (λ k h. c.before.loop.invariant.1 k (omega (arith, c.before.before.well-formed.0.1.0.1)))))
+returns-3 c = ap not (sym (every_list moderate (pos 0) c.before.before.args.t1 (λ k h. c.before.loop.invariant.1 k (omega (arith, c.before.before.well-formed.0.1.0.1)))))
 
 pub heavy-spec : {M : Type 1} → statement M
 heavy-spec =

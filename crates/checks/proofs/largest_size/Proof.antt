@@ -1,4 +1,4 @@
-use Rattle.checks.proofs.Sizes.{largest-none, largest-next, rising-grouped}
+use Rattle.checks.proofs.Sizes.{largest_none, largest_next, rising_grouped}
 use Rattle.checks.specs.Largest.{Largest}
 use lib.ListN.{length, get_or}
 use Prim.Native.Nat.{ℕ, ◌+◌, ◌-◌, ◌^◌, ◌<◌, ◌≤◌}
@@ -20,11 +20,11 @@ decreases-loop begins buckets z₀ b₀ z b = buckets - b
 
 -- src/lib.rt:52:5
 loop-holds : tie.Need-loop-init invariant-loop decreases-loop
-loop-holds c = (omega arith, largest-none _, omega arith)
+loop-holds c = (omega arith, largest_none _, omega arith)
 
 -- src/lib.rt:53:13
 size-of-requires : tie.Need-size-of-requires invariant-loop decreases-loop
-size-of-requires c κs = rising-grouped _ _ _ c.before.before.before.requires.0 c.before.before.before.requires.1 c.loop-test.true
+size-of-requires c κs = rising_grouped _ _ _ c.before.before.before.requires.0 c.before.before.before.requires.1 c.loop-test.true
 
 -- src/lib.rt:57:9
 add-b : tie.Need-overflow-add-b invariant-loop decreases-loop
@@ -41,8 +41,8 @@ loop-again c =
     let l = c.before.before.before.loop.invariant.1 in
     let b = c.before.size_of.ensures.1 in
     ⊎_elim
-    (λ w. let z = w.1 in (omega arith, largest-next l e (omega (arith, w.0.taken)), omega arith))
-    (λ w. let z = w.1 in (omega arith, largest-next l e (omega (arith, w.0.left)), omega (arith, c.before.before.before.loop.invariant.2)))
+    (λ w. let z = w.1 in (omega arith, largest_next l e (omega (arith, w.0.taken)), omega arith))
+    (λ w. let z = w.1 in (omega arith, largest_next l e (omega (arith, w.0.left)), omega (arith, c.before.before.before.loop.invariant.2)))
     c.if1.branch
 
 -- src/lib.rt:45:1

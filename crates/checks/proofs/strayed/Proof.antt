@@ -1,4 +1,4 @@
-use Rattle.checks.proofs.Stray.{part_of, strays-as, none-strayed, one-strayed, begun-grouped}
+use Rattle.checks.proofs.Stray.{part_of, strays_as, none_strayed, one_strayed, begun_grouped}
 use Rattle.checks.specs.Homes.{Strays}
 use lib.ListN.{length, get_or}
 use Prim.Native.Nat.{ℕ, ◌+◌, ◌-◌, ◌<◌, ◌≤◌}
@@ -26,7 +26,7 @@ loop-holds c = (omega arith, λ j h. absurd (let z : ⊥ = omega arith in z))
 
 -- src/lib.rt:122:13
 keys-of-requires : tie.Need-keys-of-requires invariant-loop decreases-loop
-keys-of-requires c κs = begun-grouped c.before.before.before.before.requires.1 c.before.loop.b c.loop-test.true
+keys-of-requires c κs = begun_grouped c.before.before.before.before.requires.1 c.before.loop.b c.loop-test.true
 
 -- src/lib.rt:123:12
 strays-requires : tie.Need-strays-requires invariant-loop decreases-loop
@@ -34,7 +34,7 @@ strays-requires c κs = search rules
 
 -- src/lib.rt:124:13
 returns : tie.Need-returns invariant-loop decreases-loop
-returns c = one-strayed _ _ _ _ c.before.before.before.before.loop.b c.before.before.before.loop-test.true (strays-as c.before.strays.ensures c.before.before.keys_of.ensures c.if1.true)
+returns c = one_strayed _ _ _ _ c.before.before.before.before.loop.b c.before.before.before.loop-test.true (strays_as c.before.strays.ensures c.before.before.keys_of.ensures c.if1.true)
 
 -- src/lib.rt:126:9
 add-b : tie.Need-overflow-add-b invariant-loop decreases-loop
@@ -46,11 +46,11 @@ loop-less c = search rules
 
 -- src/lib.rt:121:5
 loop-again : tie.Need-loop-preserved invariant-loop decreases-loop
-loop-again c = (omega arith, below_more _ c.before.before.before.before.loop.b c.before.before.before.before.loop.invariant.1 (strays-as c.before.strays.ensures c.before.before.keys_of.ensures c.if1.false))
+loop-again c = (omega arith, below_more _ c.before.before.before.before.loop.b c.before.before.before.before.loop.invariant.1 (strays_as c.before.strays.ensures c.before.before.keys_of.ensures c.if1.false))
 
 -- src/lib.rt:115:1
 returns-2 : tie.Need-returns-2 invariant-loop decreases-loop
-returns-2 c = none-strayed _ _ _ _ (λ a h. c.before.loop.invariant.1 a (omega arith))
+returns-2 c = none_strayed _ _ _ _ (λ a h. c.before.loop.invariant.1 a (omega arith))
 
 pub strayed-spec : {M : Type 1} → statement M
 strayed-spec =

@@ -1,5 +1,5 @@
 use Rattle.checks.proofs.Stray.{all_in, one_out}
-use Rattle.rules.specs.Geometry.{bucketOf}
+use Rattle.rules.specs.Geometry.{bucket_of}
 use lib.ListN.{length, get_or}
 use Prim.Native.Nat.{ℕ, ◌+◌, ◌-◌, ◌<◌, ◌≤◌}
 use mathlib.Core.Path.{◌≡◌, refl, sym, ap, ◌∙◌}
@@ -13,7 +13,7 @@ use Rattle.checks.proofs.strays.Lts as lts
 use Rattle.geometry.proofs.place.bucket_of.Reads as bucket-of-reads
 
 abbrev invariant-loop : tie.invariant-loop
-invariant-loop g keys b k₀ k = (k ≤ length keys) × ((j : ℕ) → j < k → bucketOf g.settings (get_or keys j 0) ≡ b)
+invariant-loop g keys b k₀ k = (k ≤ length keys) × ((j : ℕ) → j < k → bucket_of g.settings (get_or keys j 0) ≡ b)
 
 abbrev decreases-loop : tie.decreases-loop
 decreases-loop g keys b k₀ k = length keys - k

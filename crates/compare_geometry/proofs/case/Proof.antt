@@ -2,7 +2,7 @@
 use mathlib.Core.Path.{sym, ◌∙◌, subst}
 use borrow.Author.Rules.{rules}
 use Rattle.rules.specs.Good.{Usable}
-use Rattle.rules.proofs.CheckLaws.{passes-7, good-usable}
+use Rattle.rules.proofs.CheckLaws.{passes_7, good_usable}
 use Rattle.geometry.specs.Shape.{Made}
 use Rattle.geometry.proofs.Sizes.{made}
 use Rattle.compare_geometry.proofs.case.Statement.{statement}
@@ -11,7 +11,7 @@ use Rattle.compare_geometry.proofs.case.Tie as tie
 usable : (c : tie.Else1) → Usable c.before.before.before.before.settings.result
 usable c =
     let s = c.before.before.before.before.settings.result in
-    good-usable s (passes-7 s (sym c.before.before.before.number-to-7.ensures.0 ∙ c.if1.false))
+    good_usable s (passes_7 s (sym c.before.before.before.number-to-7.ensures.0 ∙ c.if1.false))
 
 settings-requires : tie.Need-settings-requires
 settings-requires c κs = search rules

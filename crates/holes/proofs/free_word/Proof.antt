@@ -1,8 +1,8 @@
 -- The holes of one word as bits: the complement, masked where fewer than 64 slots are left.
 use Prim.Native.Nat.{◌-◌, ◌*◌}
 use native.Mathlib.Omega.{arith}
-use Rattle.words.specs.ShiftLaws.{one-shl-pos}
-use Rattle.holes.proofs.Walk.{free_part, free-whole}
+use Rattle.words.specs.ShiftLaws.{one_shl_pos}
+use Rattle.holes.proofs.Walk.{free_part, free_whole}
 use borrow.Author.Rules.{rules}
 use Rattle.holes.proofs.free_word.Statement.{statement}
 use Rattle.holes.proofs.free_word.Tie as tie
@@ -25,13 +25,13 @@ shl-result c = search rules
 sub-result : tie.Need-overflow-sub-result
 sub-result c =
     let v = c.before.before.args.m - c.before.before.args.w * 64 in
-    omega (arith, one-shl-pos 64 v (omega arith))
+    omega (arith, one_shl_pos 64 v (omega arith))
 
 returns : tie.Need-returns
 returns c = let a = c.before.before.args in free_part a.m a.bitmap.now a.w (omega arith)
 
 returns-2 : tie.Need-returns-2
-returns-2 c = let a = c.before.before.args in free-whole a.m a.bitmap.now a.w (omega arith)
+returns-2 c = let a = c.before.before.args in free_whole a.m a.bitmap.now a.w (omega arith)
 
 pub free-word-spec : {M : Type 1} → statement M
 free-word-spec =

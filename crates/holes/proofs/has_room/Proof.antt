@@ -4,15 +4,15 @@ use native.Mathlib.Omega.{arith}
 use lib.ListN.{length}
 use borrow.Author.Rules.{rules}
 use borrow.Author.Tests.{le-leb}
-use Rattle.rules.specs.Holes.{holesOf}
-use Rattle.holes.proofs.Walk.{holes-length}
+use Rattle.rules.specs.Holes.{holes_of}
+use Rattle.holes.proofs.Walk.{holes_length}
 use Rattle.holes.proofs.has_room.Statement.{statement}
 use Rattle.holes.proofs.has_room.Tie as tie
 
 returns : tie.Need-returns
 returns c =
     let a = c.before.before.args in
-    sym (le-leb (length (holesOf a.m a.bitmap.now)) a.room (omega (arith, holes-length a.m a.bitmap.now)))
+    sym (le-leb (length (holes_of a.m a.bitmap.now)) a.room (omega (arith, holes_length a.m a.bitmap.now)))
 
 count-holes-requires : tie.Need-count-holes-requires
 count-holes-requires c κs = search rules

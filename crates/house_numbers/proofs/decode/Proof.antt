@@ -1,7 +1,7 @@
--- `decode` reads the number at a place as `decodedAt` says. What the bytes from the present place make of the present part is at each turn
+-- `decode` reads the number at a place as `decoded_at` says. What the bytes from the present place make of the present part is at each turn
 -- what all of them make of no groups. Assumes nothing.
-use Rattle.house_numbers.specs.DecodeLaws.{from_end, from_more, from-whole, from-refused}
-use Rattle.house_numbers.specs.Decode.{settled, decodedFrom, decodedAt}
+use Rattle.house_numbers.specs.DecodeLaws.{from_end, from_more, from_whole, from_refused}
+use Rattle.house_numbers.specs.Decode.{settled, decoded_from, decoded_at}
 use Rattle.house_numbers.specs.declared.Decoded.{Decoded}
 use Rattle.house_numbers.specs.declared.Grown.TheVariants as Grow
 use Rattle.house_numbers.specs.declared.Grown.{Grown}
@@ -15,13 +15,13 @@ use Rattle.house_numbers.proofs.decode.Statement.{statement}
 use Rattle.house_numbers.proofs.decode.Tie as tie
 
 abbrev invariant-loop : tie.invariant-loop
-invariant-loop bytes at part₀ place₀ part place = decodedFrom place (drop place bytes) part ≡ decodedAt bytes at
+invariant-loop bytes at part₀ place₀ part place = decoded_from place (drop place bytes) part ≡ decoded_at bytes at
 
 abbrev decreases-loop : tie.decreases-loop
 decreases-loop bytes at part₀ place₀ part place = length bytes - place
 
 loop-holds : tie.Need-loop-init invariant-loop decreases-loop
-unfolding decodedAt
+unfolding decoded_at
 loop-holds c = refl
 
 shared-slice-read-grow : tie.Need-shared-slice-read-grow invariant-loop decreases-loop
@@ -41,14 +41,14 @@ add-t12 c = omega arith
 
 returns : tie.Need-returns invariant-loop decreases-loop
 returns c =
-    from-whole _ _ _ c.before.before.before.before.before.loop-test.true _ c.before.before.before.grow.ensures _ c.before.value.given.1 ∙ c.before.before.before.before.before.before.loop.invariant
+    from_whole _ _ _ c.before.before.before.before.before.loop-test.true _ c.before.before.before.grow.ensures _ c.before.value.given.1 ∙ c.before.before.before.before.before.before.loop.invariant
 
 enum_told : tie.Need-enum-told invariant-loop decreases-loop
 enum_told c = search rules
 
 returns-2 : tie.Need-returns-2 invariant-loop decreases-loop
 returns-2 c =
-    from-refused _ _ _ c.before.before.before.before.loop-test.true _ c.before.before.grow.ensures c.enum_told.given.1 ∙ c.before.before.before.before.before.loop.invariant
+    from_refused _ _ _ c.before.before.before.before.loop-test.true _ c.before.before.grow.ensures c.enum_told.given.1 ∙ c.before.before.before.before.before.loop.invariant
 
 add-place : tie.Need-overflow-add-place invariant-loop decreases-loop
 add-place c = omega arith

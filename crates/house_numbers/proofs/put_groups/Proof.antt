@@ -1,6 +1,6 @@
 -- `put_groups` stores the bytes of a number one after the other: storing the rest from the present place on gives at each turn what
 -- storing all of them gives. Assumes nothing.
-use Rattle.house_numbers.specs.EncodeLaws.{sets-small, sets-large, length-small, length-large, length-pos}
+use Rattle.house_numbers.specs.EncodeLaws.{sets_small, sets_large, length_small, length_large, length_pos}
 use Rattle.house_numbers.specs.Encode.{encoded}
 use lib.Seq.{sets}
 use lib.ListN.{length, length-set}
@@ -26,10 +26,10 @@ cast-out : tie.Need-overflow-cast-out invariant-loop decreases-loop
 cast-out c = omega arith
 
 slice-write-out : tie.Need-slice-write-out invariant-loop decreases-loop
-slice-write-out c = omega (arith, length-pos c.before.loop.rest)
+slice-write-out c = omega (arith, length_pos c.before.loop.rest)
 
 add-place : tie.Need-overflow-add-place invariant-loop decreases-loop
-add-place c = omega (arith, length-pos c.before.loop.rest)
+add-place c = omega (arith, length_pos c.before.loop.rest)
 
 loop-less : tie.Need-loop-smaller invariant-loop decreases-loop
 loop-less c = omega arith
@@ -37,16 +37,16 @@ loop-less c = omega arith
 loop-again : tie.Need-loop-preserved invariant-loop decreases-loop
 loop-again c =
     let l = c.before.loop in
-    (omega (arith, length-large l.rest l.invariant.3 c.loop-test.true), simp length-set l.invariant.1, sets-large _ _ _ l.invariant.3 c.loop-test.true ∙ l.invariant.2, omega arith)
+    (omega (arith, length_large l.rest l.invariant.3 c.loop-test.true), simp length-set l.invariant.1, sets_large _ _ _ l.invariant.3 c.loop-test.true ∙ l.invariant.2, omega arith)
 
 cast-out-2 : tie.Need-overflow-cast-out-2 invariant-loop decreases-loop
 cast-out-2 c = omega arith
 
 slice-write-out-2 : tie.Need-slice-write-out-2 invariant-loop decreases-loop
-slice-write-out-2 c = omega (arith, length-pos c.before.loop.rest)
+slice-write-out-2 c = omega (arith, length_pos c.before.loop.rest)
 
 add-result : tie.Need-overflow-add-result invariant-loop decreases-loop
-add-result c = omega (arith, length-pos c.before.loop.rest)
+add-result c = omega (arith, length_pos c.before.loop.rest)
 
 same_length : tie.Need-same-length invariant-loop decreases-loop
 same_length c = simp length-set c.before.loop.invariant.1
@@ -54,7 +54,7 @@ same_length c = simp length-set c.before.loop.invariant.1
 returns : tie.Need-returns invariant-loop decreases-loop
 returns c =
     let l = c.before.loop in
-    (omega (arith, length-small l.rest c.loop-test.false), sets-small _ _ _ c.loop-test.false ∙ l.invariant.2)
+    (omega (arith, length_small l.rest c.loop-test.false), sets_small _ _ _ c.loop-test.false ∙ l.invariant.2)
 
 pub put-groups-spec : {M : Type 1} → statement M
 put-groups-spec =

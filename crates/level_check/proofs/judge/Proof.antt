@@ -1,6 +1,6 @@
--- Each way out says what `levelAnswer` says there, and leaves the scratch as the last `clear` made it: all zero.
+-- Each way out says what `level_answer` says there, and leaves the scratch as the last `clear` made it: all zero.
 use lib.ListN.{length}
-use Rattle.level_check.proofs.Judging.{blank, refill, says-28, says-29, says-30, says-accepted}
+use Rattle.level_check.proofs.Judging.{blank, refill, says_28, says_29, says_30, says_accepted}
 use borrow.Author.Rules.{rules}
 use Rattle.level_check.proofs.judge.Statement.{statement}
 use Rattle.level_check.proofs.judge.Tie as tie
@@ -21,8 +21,8 @@ returns : tie.Need-returns
 returns c =
     let start = c.before.before.before.before.before.before.before.before.before.before.before.before.before in
     let a = start.args in (
-      says-28 a.g.settings a.hashes.now a.begins.now a.seeds.now a.bitmap.now start.requires.1.1.0
-          c.before.before.power-of-two.ensures.0 c.before.seeds-bad.ensures c.if1.true,
+      says_28 a.g.settings a.hashes.now a.begins.now a.seeds.now a.bitmap.now start.requires.1.1.0
+          c.before.before.power-of-two.ensures.0 c.before.seeds_bad.ensures c.if1.true,
       c.before.before.before.before.before.clear.ensures,
     )
 
@@ -42,8 +42,8 @@ returns-2 : tie.Need-returns-2
 returns-2 c =
     let start = c.before.before.before.before.before.before.before.before.before.before.before.before.before.before.before.before.before.before.before.before.before.before in
     let a = start.args in (
-      says-29 a.g.settings a.hashes.now a.begins.now a.seeds.now a.bitmap.now start.requires.1.1.0
-          c.before.before.before.before.before.before.before.before.before.before.before.power-of-two.ensures.0 c.before.before.before.before.before.before.before.before.before.before.seeds-bad.ensures c.before.before.before.before.before.before.before.before.before.if1.false c.before.before.before.before.before.before.before.mark-buckets.ensures c.before.before.before.before.if2.true,
+      says_29 a.g.settings a.hashes.now a.begins.now a.seeds.now a.bitmap.now start.requires.1.1.0
+          c.before.before.before.before.before.before.before.before.before.before.before.power-of-two.ensures.0 c.before.before.before.before.before.before.before.before.before.before.seeds_bad.ensures c.before.before.before.before.before.before.before.before.before.if1.false c.before.before.before.before.before.before.before.mark-buckets.ensures c.before.before.before.before.if2.true,
       refill _ (length c.before.before.before.before.before.before.before.mark-buckets.new.1.1.1.1.0) _ c.before.before.clear2.ensures (same-length-2 c),
     )
 
@@ -60,8 +60,8 @@ returns-3 : tie.Need-returns-3
 returns-3 c =
     let start = c.before.before.before.before.before.before.before.before.before.before.before.before.before.before.before.before.before.before.before.before.before.before.before.before.before in
     let a = start.args in (
-      says-accepted a.g.settings a.hashes.now a.begins.now a.seeds.now a.bitmap.now start.requires.1.1.0
-          c.before.before.before.before.before.before.before.before.before.before.before.before.before.before.power-of-two.ensures.0 c.before.before.before.before.before.before.before.before.before.before.before.before.before.seeds-bad.ensures c.before.before.before.before.before.before.before.before.before.before.before.before.if1.false c.before.before.before.before.before.before.before.before.before.before.mark-buckets.ensures c.before.before.before.before.before.before.before.if2.false
+      says_accepted a.g.settings a.hashes.now a.begins.now a.seeds.now a.bitmap.now start.requires.1.1.0
+          c.before.before.before.before.before.before.before.before.before.before.before.before.before.before.power-of-two.ensures.0 c.before.before.before.before.before.before.before.before.before.before.before.before.before.seeds_bad.ensures c.before.before.before.before.before.before.before.before.before.before.before.before.if1.false c.before.before.before.before.before.before.before.before.before.before.mark-buckets.ensures c.before.before.before.before.before.before.before.if2.false
           c.before.before.before.before.before.same-words.ensures c.if3.true,
       refill _ (length c.before.before.before.before.before.before.before.before.before.before.mark-buckets.new.1.1.1.1.0) _ c.before.before.before.clear3.ensures (same-length-3 c),
     )
@@ -73,8 +73,8 @@ returns-4 : tie.Need-returns-4
 returns-4 c =
     let start = c.before.before.before.before.before.before.before.before.before.before.before.before.before.before.before.before.before.before.before.before.before.before.before.before.before in
     let a = start.args in (
-      says-30 a.g.settings a.hashes.now a.begins.now a.seeds.now a.bitmap.now start.requires.1.1.0
-          c.before.before.before.before.before.before.before.before.before.before.before.before.before.before.power-of-two.ensures.0 c.before.before.before.before.before.before.before.before.before.before.before.before.before.seeds-bad.ensures c.before.before.before.before.before.before.before.before.before.before.before.before.if1.false c.before.before.before.before.before.before.before.before.before.before.mark-buckets.ensures c.before.before.before.before.before.before.before.if2.false
+      says_30 a.g.settings a.hashes.now a.begins.now a.seeds.now a.bitmap.now start.requires.1.1.0
+          c.before.before.before.before.before.before.before.before.before.before.before.before.before.before.power-of-two.ensures.0 c.before.before.before.before.before.before.before.before.before.before.before.before.before.seeds_bad.ensures c.before.before.before.before.before.before.before.before.before.before.before.before.if1.false c.before.before.before.before.before.before.before.before.before.before.mark-buckets.ensures c.before.before.before.before.before.before.before.if2.false
           c.before.before.before.before.before.same-words.ensures c.if3.false,
       refill _ (length c.before.before.before.before.before.before.before.before.before.before.mark-buckets.new.1.1.1.1.0) _ c.before.before.before.clear3.ensures (same-length-4 c),
     )

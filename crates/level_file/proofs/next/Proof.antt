@@ -33,10 +33,10 @@ use denote.Triple.Table.{entered, cited}
 use denote.Triple.Walked.{says, Stays, stay_none, walk_of, Goes-none, Walks, ends_at, walked, walk_Meets}
 use denote.Triple.Clauses.{ensured}
 use denote.Exit.{yes}
-use Rattle.level_file.specs.Taking.{takenAt}
+use Rattle.level_file.specs.Taking.{taken_at}
 use Rattle.level_file.specs.declared.Reader.{Reader}
 use Rattle.level_file.specs.declared.Taken.{Taken}
-use Rattle.level_file.proofs.Lent.{ReaderAt, Whole, Bytes, opened, TakeAt, to_take, take-asks, take-tells}
+use Rattle.level_file.proofs.Lent.{ReaderAt, Whole, Bytes, opened, TakeAt, to_take, take_asks, take_tells}
 use Rattle.level_file.specs.contracts.Reader as T
 use Rattle.level_file.proofs.Reader.TheLaws as T'
 use Rattle.level_file.specs.contracts.Taken as K
@@ -74,10 +74,10 @@ module _ {M : Type 1} {𝓤 : Ura M} (𝓛 : Logic 𝓤) (mem : Memory → SProp
         -- [the reader; the token]
         use1 𝓛 (‵ (Bytes κ d) ⊛ ‵ (Whole κ d)) (opened κ d 𝓛) $ split ! $ move ! (0 ∷ 2 ∷ []) $
         -- [the slice; the token; the reader]
-        use2 𝓛 (raw ((TakeAt 𝓛 mem run).pre asked)) (take-asks 𝓛 mem run κ q d.bytes d.at fits) $ frame ! $ done !
+        use2 𝓛 (raw ((TakeAt 𝓛 mem run).pre asked)) (take_asks 𝓛 mem run κ q d.bytes d.at fits) $ frame ! $ done !
 
     -- the answer, the token and the reader make the exit
-    leaves : (t : Taken) (u : Val) → t ≡ takenAt d.bytes.now d.at → ent 𝓤 (⋆ 𝓛 (‵ ((K.the_row).own_val t (u ∷ [])) ∷ (‵ (flft κ q) ⊛ ‵ ftrue) ∷ ‵ (Whole κ d) ∷ [])) (Exit u)
+    leaves : (t : Taken) (u : Val) → t ≡ taken_at d.bytes.now d.at → ent 𝓤 (⋆ 𝓛 (‵ ((K.the_row).own_val t (u ∷ [])) ∷ (‵ (flft κ q) ⊛ ‵ ftrue) ∷ ‵ (Whole κ d) ∷ [])) (Exit u)
     leaves t u e =
         qed 𝓛 (‵ ((K.the_row).own_val t (u ∷ [])) ∷ (‵ (flft κ q) ⊛ ‵ ftrue) ∷ ‵ (Whole κ d) ∷ []) ∵
         suffices ! _ (ends_at 𝓛 next.ended kept (next.clauses 𝓛 mem run) (((κ, tt), (q, tt), tt, (d, tt), (T'.lowered d ∷ [], tt)), tt) u t (tt, tt) (tt, tt)) $ says ! e $
@@ -96,7 +96,7 @@ module _ {M : Type 1} {𝓤 : Ura M} (𝓛 : Logic 𝓤) (mem : Memory → SProp
           -- [what `take_at` asks; the reader; _3; ..; _2; ..]
           calls_at ! fm (TakeAt 𝓛 mem run) known asked (and_then ! (load ! (from ! (stop !)) (look ! 4 refl)) (and_then ! (load ! (from ! (stop !)) (look ! 2 refl)) (no_more !))) (λ u.
           use1 𝓛 (later (some (λ (t : Taken). ((‵ (flft κ q) ⊛ ‵ ftrue) ⊛ ‵ ((K.the_row).own_val t (u ∷ []))) ⊛ raw (ensured 𝓛 take_at.ended (take_at.clauses 𝓛 mem run) (κ, tt) (d.bytes, (d.at, tt)) tt t)))) (id⊢ 𝓤 _) $ await ! tt $ pick ! (λ t.
-          split ! $ move ! (1 ∷ []) $ use1 𝓛 (raw (fact 𝓤 (t ≡ takenAt d.bytes.now d.at))) (take-tells 𝓛 mem run κ q d.bytes d.at t) $ heard ! (t ≡ takenAt d.bytes.now d.at) (λ e. split ! $ move ! (1 ∷ []) $
+          split ! $ move ! (1 ∷ []) $ use1 𝓛 (raw (fact 𝓤 (t ≡ taken_at d.bytes.now d.at))) (take_tells 𝓛 mem run κ q d.bytes d.at t) $ heard ! (t ≡ taken_at d.bytes.now d.at) (λ e. split ! $ move ! (1 ∷ []) $
           -- [the answer; the token; the reader; _3; ..; _2; ..; _1; ..; room for _0; ..]
           peeks ! K.the_row (Is K.the_row) (shows 𝓛 K.the_row) t (u ∷ []) (λ is.
           land ! (from ! (stop !)) (init ! 9 refl ((EL.lawful K.the_type K'.the_laws 𝓛 tt).typed t _ is).0) $ returns ! (look ! 9 refl) $

@@ -35,7 +35,7 @@ use denote.Triple.Table.{entered, cited}
 use denote.Triple.Walked.{says, Stays, stay_none, stay_none_slice, walk_of, Goes-none, Goes-none_slice, Walks, ends_at, walked, walk_Meets}
 use denote.Triple.Clauses.{ensured, lasts}
 use denote.Exit.{yes}
-use Rattle.level_file.specs.Taking.{takenAt}
+use Rattle.level_file.specs.Taking.{taken_at}
 use Rattle.level_file.specs.declared.Reader.{Reader}
 use Rattle.level_file.specs.declared.Taken.{Taken}
 use Rattle.level_file.proofs.Lent.{words_of, Whole, Bytes, shut}
@@ -78,8 +78,8 @@ module _ {M : Type 1} {𝓤 : Ura M} (𝓛 : Logic 𝓤) (mem : Memory → SProp
     abbrev asked : (Next 𝓛 mem run).Ghost
     asked = (((κ, tt), (q, tt), tt, (reader, tt), (T'.lowered reader ∷ [], tt)), tt)
 
-    next-asks : ent 𝓤 (⋆ 𝓛 (‵ (Whole κ reader) ∷ (‵ (flft κ q) ⊛ ‵ ftrue) ∷ [])) ((Next 𝓛 mem run).pre asked)
-    next-asks =
+    next_asks : ent 𝓤 (⋆ 𝓛 (‵ (Whole κ reader) ∷ (‵ (flft κ q) ⊛ ‵ ftrue) ∷ [])) ((Next 𝓛 mem run).pre asked)
+    next_asks =
         qed 𝓛 (‵ (Whole κ reader) ∷ (‵ (flft κ q) ⊛ ‵ ftrue) ∷ []) ∵ nothing ! $ move ! (1 ∷ 0 ∷ []) $ fjoin ! $
         -- [the one parameter; the token]
         move ! (1 ∷ 0 ∷ []) $ join ! $ frame ! $ done !
@@ -92,13 +92,13 @@ module _ {M : Type 1} {𝓤 : Ura M} (𝓛 : Logic 𝓤) (mem : Memory → SProp
         use1 𝓛 (‵ (Bytes κ reader) ⊛ ‵ (Bytes κ reader)) ((shr_slice_copy 𝓛 (named 0) κ u8).twice s (words_of s ∷ [])) $ split ! $
         use1 𝓛 (‵ (Whole κ reader)) (shut κ reader 𝓛 fits) $ move ! (0 ∷ 2 ∷ []) $
         -- [the reader; the token; the slice]
-        use2 𝓛 (raw ((Next 𝓛 mem run).pre asked)) next-asks $ frame ! $ done !
+        use2 𝓛 (raw ((Next 𝓛 mem run).pre asked)) next_asks $ frame ! $ done !
 
-    next-tells : (t : Taken) → ent 𝓤 (ensured 𝓛 next.ended (next.clauses 𝓛 mem run) (κ, tt) (reader, tt) tt t) (fact 𝓤 (t ≡ takenAt s.now place))
-    next-tells t = ex_e 𝓤 _ (λ ws. snd∗ 𝓤 (sem 𝓛 (lasts next.ended (κ, tt) (reader, tt) ws)) (fact 𝓤 (t ≡ takenAt s.now place)))
+    next_tells : (t : Taken) → ent 𝓤 (ensured 𝓛 next.ended (next.clauses 𝓛 mem run) (κ, tt) (reader, tt) tt t) (fact 𝓤 (t ≡ taken_at s.now place))
+    next_tells t = ex_e 𝓤 _ (λ ws. snd∗ 𝓤 (sem 𝓛 (lasts next.ended (κ, tt) (reader, tt) ws)) (fact 𝓤 (t ≡ taken_at s.now place)))
 
     -- the answer, the token and the slice make the exit; what the place owns is made anew
-    leaves : (t : Taken) (u : Val) → t ≡ takenAt s.now place → ent 𝓤 (⋆ 𝓛 (‵ ((K.the_row).own_val t (u ∷ [])) ∷ (‵ (flft κ q) ⊛ ‵ ftrue) ∷ ‵ (Bytes κ reader) ∷ [])) (Exit u)
+    leaves : (t : Taken) (u : Val) → t ≡ taken_at s.now place → ent 𝓤 (⋆ 𝓛 (‵ ((K.the_row).own_val t (u ∷ [])) ∷ (‵ (flft κ q) ⊛ ‵ ftrue) ∷ ‵ (Bytes κ reader) ∷ [])) (Exit u)
     leaves t u e =
         qed 𝓛 (‵ ((K.the_row).own_val t (u ∷ [])) ∷ (‵ (flft κ q) ⊛ ‵ ftrue) ∷ ‵ (Bytes κ reader) ∷ []) ∵
         suffices ! _ (ends_at 𝓛 number_at.ended kept (number_at.clauses 𝓛 mem run) (((κ, tt), (q, tt), tt, (s, (place, tt)), words), tt) u t (tt, (tt, tt)) (tt, (tt, tt))) $ says ! e $
@@ -119,7 +119,7 @@ module _ {M : Type 1} {𝓤 : Ura M} (𝓛 : Logic 𝓤) (mem : Memory → SProp
           -- [what `next` asks; the slice; _3; ..]
           calls_at ! fm (Next 𝓛 mem run) known asked (and_then ! (load ! (from ! (stop !)) (look ! 2 refl)) (no_more !)) (λ u.
           use1 𝓛 (later (some (λ (t : Taken). ((‵ (flft κ q) ⊛ ‵ ftrue) ⊛ ‵ ((K.the_row).own_val t (u ∷ []))) ⊛ raw (ensured 𝓛 next.ended (next.clauses 𝓛 mem run) (κ, tt) (reader, tt) tt t)))) (id⊢ 𝓤 _) $ await ! tt $ pick ! (λ t.
-          split ! $ move ! (1 ∷ []) $ use1 𝓛 (raw (fact 𝓤 (t ≡ takenAt s.now place))) (next-tells t) $ heard ! (t ≡ takenAt s.now place) (λ e. split ! $ move ! (1 ∷ []) $
+          split ! $ move ! (1 ∷ []) $ use1 𝓛 (raw (fact 𝓤 (t ≡ taken_at s.now place))) (next_tells t) $ heard ! (t ≡ taken_at s.now place) (λ e. split ! $ move ! (1 ∷ []) $
           -- [the answer; the token; the slice; _3; ..; _2; ..; _1; ..; room for _0; ..]
           peeks ! K.the_row (Is K.the_row) (shows 𝓛 K.the_row) t (u ∷ []) (λ is.
           land ! (from ! (stop !)) (init ! 9 refl ((EL.lawful K.the_type K'.the_laws 𝓛 tt).typed t _ is).0) $ returns ! (look ! 9 refl) $

@@ -1,5 +1,5 @@
--- `take_at` answers as `takenAt` says: what `decode` says, by cases. Assumes nothing.
-use Rattle.level_file.proofs.TakingLaws.{taken-number, taken_none}
+-- `take_at` answers as `taken_at` says: what `decode` says, by cases. Assumes nothing.
+use Rattle.level_file.proofs.TakingLaws.{taken_number, taken_none}
 use borrow.Author.Rules.{rules}
 use Rattle.level_file.proofs.take_at.Statement.{statement}
 use Rattle.level_file.proofs.take_at.Tie as tie
@@ -14,7 +14,7 @@ enum_told : tie.Need-enum-told
 enum_told c = search rules
 
 returns : tie.Need-returns
-returns c = taken-number _ _ _ c.before.before.before.decode.ensures _ _ c.before.value.given.1
+returns c = taken_number _ _ _ c.before.before.before.decode.ensures _ _ c.before.value.given.1
 
 returns-2 : tie.Need-returns-2
 returns-2 c = taken_none _ _ _ c.before.before.decode.ensures c.enum_told.given.1

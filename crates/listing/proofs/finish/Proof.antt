@@ -4,7 +4,7 @@ use lib.Seq.{length-take-le}
 use native.Mathlib.Omega.{arith}
 use mathlib.Core.Path.{◌≡◌, refl, sym, ap, ◌∙◌}
 use Rattle.rules.specs.Answers.{named_by}
-use Rattle.listing.proofs.FedLaws.{was-false, was-true, finished-by, unformed-text, many-text, kept-text, kept-well}
+use Rattle.listing.proofs.FedLaws.{was_false, was_true, finished_by, unformed_text, many_text, kept_text, kept_well}
 use borrow.Author.Rules.{rules}
 use Rattle.listing.proofs.finish.Statement.{statement}
 use Rattle.listing.proofs.finish.Tie as tie
@@ -32,7 +32,7 @@ unfolding named_by
 returns c =
     let a = c.before.before.before.before.before.before.before.before.args in
     let p = c.before.before.refused-text.ensures in
-    (finished-by a.scan a.numbers.now a.out.now _ _ _ p.0.0 p.1 (unformed-text a.scan a.numbers.now (sym c.before.before.before.before.before.scan-ends.ensures ∙ was-false c.before.before.before.before.before.scan-ends.result c.before.before.before.before.if1.true)), omega (arith, p.0.1))
+    (finished_by a.scan a.numbers.now a.out.now _ _ _ p.0.0 p.1 (unformed_text a.scan a.numbers.now (sym c.before.before.before.before.before.scan-ends.ensures ∙ was_false c.before.before.before.before.before.scan-ends.result c.before.before.before.before.if1.true)), omega (arith, p.0.1))
 
 -- src/lib.rt:53:9
 refused-text-requires-2 : tie.Need-refused-text-requires-2
@@ -48,7 +48,7 @@ unfolding named_by
 returns-2 c =
     let a = c.before.before.before.before.before.before.before.before.before.args in
     let p = c.before.before.refused-text2.ensures in
-    (finished-by a.scan a.numbers.now a.out.now _ _ _ p.0.0 p.1 (many-text a.scan a.numbers.now (sym c.before.before.before.before.before.before.scan-ends.ensures ∙ was-true c.before.before.before.before.before.before.scan-ends.result c.before.before.before.before.before.if1.false) c.before.before.before.before.if2.true), omega (arith, p.0.1))
+    (finished_by a.scan a.numbers.now a.out.now _ _ _ p.0.0 p.1 (many_text a.scan a.numbers.now (sym c.before.before.before.before.before.before.scan-ends.ensures ∙ was_true c.before.before.before.before.before.before.scan-ends.result c.before.before.before.before.before.if1.false) c.before.before.before.before.if2.true), omega (arith, p.0.1))
 
 -- src/lib.rt:55:11
 slice-aggregate-asked : tie.Need-slice-aggregate-asked
@@ -58,7 +58,7 @@ slice-aggregate-asked c = sym (length-take-le _ _ (omega (arith, c.before.if2.fa
 asked-requires : tie.Need-asked-requires
 asked-requires c κs =
     let a = c.before.before.before.before.before.before.before.args in
-    (kept-well a.scan a.numbers.now (sym c.before.before.before.before.scan-ends.ensures ∙ was-true c.before.before.before.before.scan-ends.result c.before.before.before.if1.false) c.before.before.if2.false _ c.before.before.before.before.before.before.before.requires.0.by, c.before.before.before.before.before.before.before.requires.1)
+    (kept_well a.scan a.numbers.now (sym c.before.before.before.before.scan-ends.ensures ∙ was_true c.before.before.before.before.scan-ends.result c.before.before.before.if1.false) c.before.before.if2.false _ c.before.before.before.before.before.before.before.requires.0.by, c.before.before.before.before.before.before.before.requires.1)
 
 -- src/lib.rt:42:1
 same-length-3 : tie.Need-same-length-3
@@ -69,7 +69,7 @@ returns-3 : tie.Need-returns-3
 returns-3 c =
     let a = c.before.before.before.before.before.before.before.before.before.before.args in
     let p = c.before.before.asked.ensures in
-    (finished-by a.scan a.numbers.now a.out.now _ _ _ p.0.0 p.1 (kept-text a.scan a.numbers.now (sym c.before.before.before.before.before.before.before.scan-ends.ensures ∙ was-true c.before.before.before.before.before.before.before.scan-ends.result c.before.before.before.before.before.before.if1.false) c.before.before.before.before.before.if2.false), p.0.1)
+    (finished_by a.scan a.numbers.now a.out.now _ _ _ p.0.0 p.1 (kept_text a.scan a.numbers.now (sym c.before.before.before.before.before.before.before.scan-ends.ensures ∙ was_true c.before.before.before.before.before.before.before.scan-ends.result c.before.before.before.before.before.before.if1.false) c.before.before.before.before.before.if2.false), p.0.1)
 
 pub finish_spec : {M : Type 1} → statement M
 finish_spec =

@@ -5,7 +5,7 @@ use native.Mathlib.Omega.{arith}
 use mathlib.Core.List.{[], ◌++◌}
 use mathlib.Core.Path.{◌≡◌, refl, sym, ap, ◌∙◌}
 use Rattle.listing.specs.Fed.{Fed, FedBy, Listing}
-use Rattle.listing.proofs.FedLaws.{fed-size, fed-none, fed-more}
+use Rattle.listing.proofs.FedLaws.{fed_size, fed_none, fed_more}
 use borrow.Author.Rules.{rules}
 use Rattle.listing.proofs.listing.Statement.{statement}
 use Rattle.listing.proofs.listing.Tie as tie
@@ -18,7 +18,7 @@ use Rattle.listing.proofs.finish.Reads as finish-reads
 -- all the bytes were fed
 module _ (d : tie.After-feed) where
   fed : FedBy d.before.before.before.before.before.before.args.bytes.now d.feed.result d.feed.new.1.0
-  fed = fed-more [] _ d.before.before.start.result _ _ _ (fed-none _ _ d.before.before.start.ensures refl) d.feed.ensures.0 d.feed.ensures.1
+  fed = fed_more [] _ d.before.before.start.result _ _ _ (fed_none _ _ d.before.before.start.ensures refl) d.feed.ensures.0 d.feed.ensures.1
 
 -- src/lib.rt:64:9
 returns : tie.Need-returns

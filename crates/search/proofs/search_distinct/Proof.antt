@@ -3,8 +3,8 @@
 use Prim.Native.Nat.{◌-◌}
 use native.Mathlib.Omega.{arith}
 use borrow.Author.Rules.{rules}
-use Rattle.rings.specs.RingLaws.{n-le}
-use Rattle.search.specs.LaidLaws.{laid-aside-put, laid-sorted, laid-rows, laid-settling, laid-few, laid-twins, apart_in, apart-blank, apart-zero, apart-placed}
+use Rattle.rings.specs.RingLaws.{n_le}
+use Rattle.search.specs.LaidLaws.{laid_aside_put, laid_sorted, laid_rows, laid_settling, laid_few, laid_twins, apart_in, apart_blank, apart_zero, apart_placed}
 use Rattle.search.proofs.search_distinct.Statement.{statement}
 use Rattle.search.proofs.search_distinct.Tie as tie
 
@@ -28,11 +28,11 @@ same_length c = search rules
 
 returns : tie.Need-returns
 returns c = λ i marked first b d. let e = c.before.before.before.has-Equal in
-    laid-twins (laid-sorted d e.new.1.0 e.auto.1.0) c.before.before.before.before.before.before.before.before.before.args.work.now (laid-aside-put d e.new.1.0 e.auto.1.0).len e.ensures.0 c.if1.true
+    laid_twins (laid_sorted d e.new.1.0 e.auto.1.0) c.before.before.before.before.before.before.before.before.before.args.work.now (laid_aside_put d e.new.1.0 e.auto.1.0).len e.ensures.0 c.if1.true
 
 best-distinct-requires : tie.Need-best-distinct-requires
 best-distinct-requires c κs = let e = c.before.before.before.before.has-Equal in
-    laid-rows (laid-sorted c.before.before.before.before.before.before.before.before.before.before.requires.laid e.new.1.0 e.auto.1.0)
+    laid_rows (laid_sorted c.before.before.before.before.before.before.before.before.before.before.requires.laid e.new.1.0 e.auto.1.0)
 
 same-length-2 : tie.Need-same-length-2
 same-length-2 c = search rules
@@ -40,39 +40,39 @@ same-length-2 c = search rules
 returns-2 : tie.Need-returns-2
 returns-2 c = λ i marked first b d. let e = c.before.before.before.before.before.before.before.before.before.has-Equal in
     let f = c.before.before.before.before.best-distinct.ensures in
-    rw f.1 (apart-zero (laid-sorted d e.new.1.0 e.auto.1.0) f.0 c.before.before.before.before.before.before.before.before.before.before.before.before.before.before.before.args.work.now (laid-aside-put d e.new.1.0 e.auto.1.0).len (λ k. (c.before.before.before.before.before.before.before.before.before.before.before.before.before.before.shared-slice-known.given k).fits) c.if2.true)
+    rw f.1 (apart_zero (laid_sorted d e.new.1.0 e.auto.1.0) f.0 c.before.before.before.before.before.before.before.before.before.before.before.before.before.before.before.args.work.now (laid_aside_put d e.new.1.0 e.auto.1.0).len (λ k. (c.before.before.before.before.before.before.before.before.before.before.before.before.before.before.shared-slice-known.given k).fits) c.if2.true)
 
 mul-a : tie.Need-overflow-mul-a
 mul-a c = let e = c.before.before.before.before.before.before.before.before.before.before.has-Equal in
     let s = c.before.before.before.before.before.before.before.before.before.before.before.before.before.before.before.before in
-    let d = laid-sorted s.requires.laid e.new.1.0 e.auto.1.0 in
+    let d = laid_sorted s.requires.laid e.new.1.0 e.auto.1.0 in
     let f = c.before.before.before.before.before.best-distinct in
-    let k = (laid-rows d).keys f.result.r (apart_in d f.ensures.0 c.before.if2.false).0 in
-    omega (arith, k.room, (laid-aside-put s.requires.laid e.new.1.0 e.auto.1.0).len, s.well-formed.1.1.1.1.1.1.1.1.1.1.0.0)
+    let k = (laid_rows d).keys f.result.r (apart_in d f.ensures.0 c.before.if2.false).0 in
+    omega (arith, k.room, (laid_aside_put s.requires.laid e.new.1.0 e.auto.1.0).len, s.well-formed.1.1.1.1.1.1.1.1.1.1.0.0)
 
 add_a : tie.Need-overflow-add-a
 add_a c = let e = c.before.before.before.before.before.before.before.before.before.before.has-Equal in
     let s = c.before.before.before.before.before.before.before.before.before.before.before.before.before.before.before.before in
-    let d = laid-sorted s.requires.laid e.new.1.0 e.auto.1.0 in
+    let d = laid_sorted s.requires.laid e.new.1.0 e.auto.1.0 in
     let f = c.before.before.before.before.before.best-distinct in
-    let k = (laid-rows d).keys f.result.r (apart_in d f.ensures.0 c.before.if2.false).0 in
-    omega (arith, k.room, (laid-aside-put s.requires.laid e.new.1.0 e.auto.1.0).len, s.well-formed.1.1.1.1.1.1.1.1.1.1.0.0)
+    let k = (laid_rows d).keys f.result.r (apart_in d f.ensures.0 c.before.if2.false).0 in
+    omega (arith, k.room, (laid_aside_put s.requires.laid e.new.1.0 e.auto.1.0).len, s.well-formed.1.1.1.1.1.1.1.1.1.1.0.0)
 
 settle-requires : tie.Need-settle-requires
 settle-requires c κs = let e = c.before.before.before.before.before.before.before.before.before.before.before.before.has-Equal in
     let s = c.before.before.before.before.before.before.before.before.before.before.before.before.before.before.before.before.before.before in
-    let d = laid-sorted s.requires.laid e.new.1.0 e.auto.1.0 in
+    let d = laid_sorted s.requires.laid e.new.1.0 e.auto.1.0 in
     let f = c.before.before.before.before.before.before.before.best-distinct in
     let l = apart_in d f.ensures.0 c.before.before.before.if2.false in
-    rw f.ensures.1 (laid-settling d f.result.r f.result.j l.0 l.1, apart-blank d f.ensures.0 c.before.before.before.if2.false)
+    rw f.ensures.1 (laid_settling d f.result.r f.result.j l.0 l.1, apart_blank d f.ensures.0 c.before.before.before.if2.false)
 
 seed-of-requires : tie.Need-seed-of-requires
 seed-of-requires c κs = let e = c.before.before.before.before.before.before.before.before.before.before.before.before.before.before.before.before.before.has-Equal in
     let s = c.before.before.before.before.before.before.before.before.before.before.before.before.before.before.before.before.before.before.before.before.before.before.before in
-    let d = laid-sorted s.requires.laid e.new.1.0 e.auto.1.0 in
+    let d = laid_sorted s.requires.laid e.new.1.0 e.auto.1.0 in
     let f = c.before.before.before.before.before.before.before.before.before.before.before.before.best-distinct in
     let l = apart_in d f.ensures.0 c.before.before.before.before.before.before.before.before.if2.false in
-    (l.0, l.1, laid-few d, n-le s.args.ring ((laid-rows d).keys f.result.r l.0).shape)
+    (l.0, l.1, laid_few d, n_le s.args.ring ((laid_rows d).keys f.result.r l.0).shape)
 
 same-length-3 : tie.Need-same-length-3
 same-length-3 c = search rules
@@ -83,7 +83,7 @@ same-length-4 c = search rules
 returns-3 : tie.Need-returns-3
 returns-3 c = λ i marked first b d. let e = c.before.before.before.before.before.before.before.before.before.before.before.before.before.before.before.before.before.before.has-Equal in
     let f = c.before.before.before.before.before.before.before.before.before.before.before.before.before.best-distinct in
-    apart-placed (laid-sorted d e.new.1.0 e.auto.1.0) f.ensures.0 c.before.before.before.before.before.before.before.before.before.before.before.before.before.before.before.before.before.before.before.before.before.before.before.before.args.work.now (laid-aside-put d e.new.1.0 e.auto.1.0).len c.before.before.before.before.before.before.before.before.before.if2.false (rw f.ensures.1 at c.before.before.before.before.before.settle.ensures) c.seed-of.ensures
+    apart_placed (laid_sorted d e.new.1.0 e.auto.1.0) f.ensures.0 c.before.before.before.before.before.before.before.before.before.before.before.before.before.before.before.before.before.before.before.before.before.before.before.before.args.work.now (laid_aside_put d e.new.1.0 e.auto.1.0).len c.before.before.before.before.before.before.before.before.before.if2.false (rw f.ensures.1 at c.before.before.before.before.before.settle.ensures) c.seed-of.ensures
 
 pub search-distinct-spec : {M : Type 1} → statement M
 search-distinct-spec =

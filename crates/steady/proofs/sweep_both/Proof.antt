@@ -1,6 +1,6 @@
 -- Each call leaves what its contract says; the theorems follow from that.
 use borrow.Author.Rules.{rules}
-use Rattle.steady.proofs.Calls.{both-leave}
+use Rattle.steady.proofs.Calls.{both_leave}
 use Rattle.steady.proofs.sweep_both.Statement.{statement}
 use Rattle.steady.proofs.sweep_both.Tie as tie
 
@@ -29,7 +29,7 @@ same-length-6 : tie.Need-same-length-6
 same-length-6 c = search rules
 
 returns : tie.Need-returns
-returns c = both-leave c.before.before.before.before.before.before.before.before.before.before.before.before.before.before.before.before.sweep.ensures
+returns c = both_leave c.before.before.before.before.before.before.before.before.before.before.before.before.before.before.before.before.sweep.ensures
     c.before.before.before.before.before.before.sweep2.ensures
 
 pub sweep-both-spec : {M : Type 1} → statement M

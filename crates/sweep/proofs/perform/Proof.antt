@@ -1,10 +1,10 @@
-use Rattle.sweep.proofs.PerformLaws.{many-buckets}
+use Rattle.sweep.proofs.PerformLaws.{many_buckets}
 use Rattle.sweep.specs.Performing.{Left}
 use Rattle.rules.specs.Good.{Passed}
 use Rattle.rules.specs.declared.SweepRecord.{SweepRecord}
 use Rattle.rules.specs.Order.{Input, input_of}
-use Rattle.sweep.proofs.PerformLaws.{words-room, regular, blank, cleared-long, cleared-all, left-done, left-stopped}
-use Rattle.sweep.proofs.CountLaws.{counted-all}
+use Rattle.sweep.proofs.PerformLaws.{words_room, regular, blank, cleared_long, cleared_all, left_done, left_stopped}
+use Rattle.sweep.proofs.CountLaws.{counted_all}
 use lib.Seq.{length-take-le}
 use lib.ListN.{length, take, drop, replicate, length-append}
 use mathlib.Core.List.{List}
@@ -25,16 +25,16 @@ use Rattle.sweep.proofs.turning.run.Reads as run-reads
 
 -- the lengths after the run
 module _ (c : tie.After-run) where
-  part-long : length c.run.new.1.1.1.1.1.1.1.1.1.0 ≡ c.before.before.before.before.before.before.before.before.before.before.before.before.before.before.before.before.before.before.before.before.before.before.args.words
-  part-long =
+  part_long : length c.run.new.1.1.1.1.1.1.1.1.1.0 ≡ c.before.before.before.before.before.before.before.before.before.before.before.before.before.before.before.before.before.before.before.before.before.before.args.words
+  part_long =
       c.run.auto.1.1.1.1.1.1.1.1.1.0
-      ∙ length-take-le c.before.before.before.before.before.before.before.before.before.before.before.before.before.before.before.before.before.before.before.before.before.before.args.words c.before.before.before.before.before.before.clear2.new.0 (omega (arith, words-room c.before.before.before.before.before.before.before.before.before.before.before.before.before.before.before.before.before.before.before.before.before.before.requires, cleared-long c.before.before.before.before.before.before.before.before.before.before.before.before.before.before.before.before.before.before.before.before.before.before.args.words c.before.before.before.before.before.before.before.before.before.before.before.before.before.before.before.before.before.before.before.before.before.before.args.work.now c.before.before.before.before.before.before.clear2.new.0 c.before.before.before.before.before.before.clear2.ensures (words-room c.before.before.before.before.before.before.before.before.before.before.before.before.before.before.before.before.before.before.before.before.before.before.requires)))
+      ∙ length-take-le c.before.before.before.before.before.before.before.before.before.before.before.before.before.before.before.before.before.before.before.before.before.before.args.words c.before.before.before.before.before.before.clear2.new.0 (omega (arith, words_room c.before.before.before.before.before.before.before.before.before.before.before.before.before.before.before.before.before.before.before.before.before.before.requires, cleared_long c.before.before.before.before.before.before.before.before.before.before.before.before.before.before.before.before.before.before.before.before.before.before.args.words c.before.before.before.before.before.before.before.before.before.before.before.before.before.before.before.before.before.before.before.before.before.before.args.work.now c.before.before.before.before.before.before.clear2.new.0 c.before.before.before.before.before.before.clear2.ensures (words_room c.before.before.before.before.before.before.before.before.before.before.before.before.before.before.before.before.before.before.before.before.before.before.requires)))
 
-  seeds-long : length c.run.new.1.1.1.1.1.1.1.0 ≡ length c.before.before.before.before.before.before.before.before.before.before.before.before.before.before.before.before.before.before.before.before.before.before.args.seeds.now
-  seeds-long = c.run.auto.1.1.1.1.1.1.1.0 ∙ c.before.before.before.before.before.before.before.before.before.before.before.before.before.before.clear-seeds.auto.0
+  seeds_long : length c.run.new.1.1.1.1.1.1.1.0 ≡ length c.before.before.before.before.before.before.before.before.before.before.before.before.before.before.before.before.before.before.before.before.before.before.args.seeds.now
+  seeds_long = c.run.auto.1.1.1.1.1.1.1.0 ∙ c.before.before.before.before.before.before.before.before.before.before.before.before.before.before.clear-seeds.auto.0
 
-  map-long : length c.run.new.1.1.1.1.1.1.1.1.0 ≡ length c.before.before.before.before.before.before.before.before.before.before.before.before.before.before.before.before.before.before.before.before.before.before.args.bitmap.now
-  map-long = c.run.auto.1.1.1.1.1.1.1.1.0 ∙ c.before.before.before.before.before.before.before.before.before.before.clear.auto.0
+  map_long : length c.run.new.1.1.1.1.1.1.1.1.0 ≡ length c.before.before.before.before.before.before.before.before.before.before.before.before.before.before.before.before.before.before.before.before.before.before.args.bitmap.now
+  map_long = c.run.auto.1.1.1.1.1.1.1.1.0 ∙ c.before.before.before.before.before.before.before.before.before.before.clear.auto.0
 
 clear-seeds-requires : tie.Need-clear-seeds-requires
 clear-seeds-requires c κs = search rules
@@ -43,25 +43,25 @@ clear-requires : tie.Need-clear-requires
 clear-requires c κs = search rules
 
 clear-requires-2 : tie.Need-clear-requires-2
-clear-requires-2 c κs = words-room c.before.before.before.before.before.before.before.before.before.before.before.before.before.before.before.requires
+clear-requires-2 c κs = words_room c.before.before.before.before.before.before.before.before.before.before.before.before.before.before.before.requires
 
 slice-relend-prefix-run : tie.Need-slice-relend-prefix-run
-slice-relend-prefix-run c = omega (arith, words-room c.before.before.before.before.before.before.before.before.before.before.before.before.before.before.before.before.before.before.before.before.requires, cleared-long c.before.before.before.before.before.before.before.before.before.before.before.before.before.before.before.before.before.before.before.before.args.words c.before.before.before.before.before.before.before.before.before.before.before.before.before.before.before.before.before.before.before.before.args.work.now c.before.before.before.before.clear2.new.0 c.before.before.before.before.clear2.ensures (words-room c.before.before.before.before.before.before.before.before.before.before.before.before.before.before.before.before.before.before.before.before.requires))
+slice-relend-prefix-run c = omega (arith, words_room c.before.before.before.before.before.before.before.before.before.before.before.before.before.before.before.before.before.before.before.before.requires, cleared_long c.before.before.before.before.before.before.before.before.before.before.before.before.before.before.before.before.before.before.before.before.args.words c.before.before.before.before.before.before.before.before.before.before.before.before.before.before.before.before.before.before.before.before.args.work.now c.before.before.before.before.clear2.new.0 c.before.before.before.before.clear2.ensures (words_room c.before.before.before.before.before.before.before.before.before.before.before.before.before.before.before.before.before.before.before.before.requires))
 
 slice-aggregate-run : tie.Need-slice-aggregate-run
-slice-aggregate-run c = sym (length-take-le c.before.before.before.before.before.before.before.before.before.before.before.before.before.before.before.before.before.before.before.before.before.args.words c.before.before.before.before.before.clear2.new.0 (omega (arith, words-room c.before.before.before.before.before.before.before.before.before.before.before.before.before.before.before.before.before.before.before.before.before.requires, cleared-long c.before.before.before.before.before.before.before.before.before.before.before.before.before.before.before.before.before.before.before.before.before.args.words c.before.before.before.before.before.before.before.before.before.before.before.before.before.before.before.before.before.before.before.before.before.args.work.now c.before.before.before.before.before.clear2.new.0 c.before.before.before.before.before.clear2.ensures (words-room c.before.before.before.before.before.before.before.before.before.before.before.before.before.before.before.before.before.before.before.before.before.requires))))
+slice-aggregate-run c = sym (length-take-le c.before.before.before.before.before.before.before.before.before.before.before.before.before.before.before.before.before.before.before.before.before.args.words c.before.before.before.before.before.clear2.new.0 (omega (arith, words_room c.before.before.before.before.before.before.before.before.before.before.before.before.before.before.before.before.before.before.before.before.before.requires, cleared_long c.before.before.before.before.before.before.before.before.before.before.before.before.before.before.before.before.before.before.before.before.before.args.words c.before.before.before.before.before.before.before.before.before.before.before.before.before.before.before.before.before.before.before.before.before.args.work.now c.before.before.before.before.before.clear2.new.0 c.before.before.before.before.before.clear2.ensures (words_room c.before.before.before.before.before.before.before.before.before.before.before.before.before.before.before.before.before.before.before.before.before.requires))))
 
 run-requires : tie.Need-run-requires
 run-requires c κs = blank c.before.before.before.before.before.before.before.before.before.before.before.before.before.before.before.before.before.before.before.before.before.requires c.before.before.before.before.before.before.before.before.before.before.before.before.before.clear-seeds.ensures refl c.before.before.before.before.before.before.before.before.before.clear.ensures c.before.before.before.before.before.clear2.ensures
 
 clear-requires-3 : tie.Need-clear-requires-3
-clear-requires-3 c κs = omega (arith, part-long c.before.before.before.before.before.before.before, length-append c.before.before.before.before.before.before.before.run.new.1.1.1.1.1.1.1.1.1.0 (drop c.before.before.before.before.before.before.before.before.before.before.before.before.before.before.before.before.before.before.before.before.before.before.before.before.before.before.before.before.before.args.words c.before.before.before.before.before.before.before.before.before.before.before.before.before.clear2.new.0))
+clear-requires-3 c κs = omega (arith, part_long c.before.before.before.before.before.before.before, length-append c.before.before.before.before.before.before.before.run.new.1.1.1.1.1.1.1.1.1.0 (drop c.before.before.before.before.before.before.before.before.before.before.before.before.before.before.before.before.before.before.before.before.before.before.before.before.before.before.before.before.before.args.words c.before.before.before.before.before.before.before.before.before.before.before.before.before.clear2.new.0))
 
 enum_told : tie.Need-enum-told
 enum_told c = search rules
 
 counted-requires : tie.Need-counted-requires
-counted-requires c κs = regular c.before.before.before.before.before.before.before.before.before.before.before.before.before.before.before.before.before.before.before.before.before.before.before.before.before.before.before.before.before.before.before.before.before.before.before.requires c.before.before.before.before.before.before.before.before.before.before.before.before.before.run.new.1.1.1.1.1.1.1.0 (seeds-long c.before.before.before.before.before.before.before.before.before.before.before.before.before)
+counted-requires c κs = regular c.before.before.before.before.before.before.before.before.before.before.before.before.before.before.before.before.before.before.before.before.before.before.before.before.before.before.before.before.before.before.before.before.before.before.before.requires c.before.before.before.before.before.before.before.before.before.before.before.before.before.run.new.1.1.1.1.1.1.1.0 (seeds_long c.before.before.before.before.before.before.before.before.before.before.before.before.before)
 
 done-requires : tie.Need-done-requires
 done-requires c κs = search rules
@@ -79,7 +79,7 @@ refused-requires : tie.Need-refused-requires
 refused-requires c κs = search rules
 
 same_length : tie.Need-same-length
-same_length c = seeds-long c.before.before.before.before.before.before.before.before.before.before.before.before.before.before.before
+same_length c = seeds_long c.before.before.before.before.before.before.before.before.before.before.before.before.before.before.before
 
 same-length-2 : tie.Need-same-length-2
 same-length-2 c = search rules
@@ -92,11 +92,11 @@ returns c =
     let s = c.before.before.before.before.before.before.before.before.before.before.before.before.before.before.before.before.before.before.before.before.before.before.before.before.before.before.before.before.before.before.before.before.before.before.before.before.before in
     let i = input_of s.args.g.settings s.args.weights s.args.hashes.now s.args.begins.now s.args.table.now in
     subst (λ (r : SweepRecord). Left i s.args.how s.args.seeds.now s.args.bitmap.now s.args.work.now r c.before.before.before.before.before.before.before.before.before.before.before.before.before.before.before.run.new.1.1.1.1.1.1.1.0 c.before.before.before.before.before.before.before.before.before.before.before.before.before.before.before.run.new.1.1.1.1.1.1.1.1.0 c.before.before.before.before.before.before.before.clear3.new.0) (sym c.done.ensures)
-    (left-done s.requires c.before.before.before.before.before.before.before.before.before.before.before.before.before.before.before.run.new.1.1.1.1.1.1.1.1.1.0 c.before.before.before.before.before.before.before.before.before.before.before.before.before.before.before.run.ensures c.before.before.before.before.before.before.before.before.before.before.before.before.before.before.before.before.before.before.before.before.before.clear2.ensures (part-long c.before.before.before.before.before.before.before.before.before.before.before.before.before.before.before) c.before.before.before.before.before.before.before.clear3.ensures c.before.before.before.enum_told.given.1
-    (counted-all c.before.counted.ensures i refl (many-buckets s.requires ∙ sym (seeds-long c.before.before.before.before.before.before.before.before.before.before.before.before.before.before.before))))
+    (left_done s.requires c.before.before.before.before.before.before.before.before.before.before.before.before.before.before.before.run.new.1.1.1.1.1.1.1.1.1.0 c.before.before.before.before.before.before.before.before.before.before.before.before.before.before.before.run.ensures c.before.before.before.before.before.before.before.before.before.before.before.before.before.before.before.before.before.before.before.before.before.clear2.ensures (part_long c.before.before.before.before.before.before.before.before.before.before.before.before.before.before.before) c.before.before.before.before.before.before.before.clear3.ensures c.before.before.before.enum_told.given.1
+    (counted_all c.before.counted.ensures i refl (many_buckets s.requires ∙ sym (seeds_long c.before.before.before.before.before.before.before.before.before.before.before.before.before.before.before))))
 
 same-length-4 : tie.Need-same-length-4
-same-length-4 c = c.before.before.before.before.before.before.before.clear-seeds2.auto.0 ∙ seeds-long c.before.before.before.before.before.before.before.before.before.before.before.before.before.before.before.before.before.before.before.before.before.before
+same-length-4 c = c.before.before.before.before.before.before.before.clear-seeds2.auto.0 ∙ seeds_long c.before.before.before.before.before.before.before.before.before.before.before.before.before.before.before.before.before.before.before.before.before.before
 
 same-length-5 : tie.Need-same-length-5
 same-length-5 c = search rules
@@ -109,9 +109,9 @@ returns-2 c =
     let s = c.before.before.before.before.before.before.before.before.before.before.before.before.before.before.before.before.before.before.before.before.before.before.before.before.before.before.before.before.before.before.before.before.before.before.before.before.before.before.before.before.before.before.before.before in
     let i = input_of s.args.g.settings s.args.weights s.args.hashes.now s.args.begins.now s.args.table.now in
     subst (λ (r : SweepRecord). Left i s.args.how s.args.seeds.now s.args.bitmap.now s.args.work.now r c.before.before.before.before.before.before.before.clear-seeds2.new.0 c.before.before.before.clear4.new.0 c.before.before.before.before.before.before.before.before.before.before.before.before.before.before.clear3.new.0) (sym c.refused.ensures)
-    (left-stopped s.requires c.before.before.before.before.before.before.before.before.before.before.before.before.before.before.before.before.before.before.before.before.before.before.run.new.1.1.1.1.1.1.1.1.1.0 c.before.before.before.before.before.before.before.before.before.before.before.before.before.before.before.before.before.before.before.before.before.before.run.ensures c.before.before.before.before.before.before.before.before.before.before.before.before.before.before.before.before.before.before.before.before.before.before.before.before.before.before.before.before.clear2.ensures (part-long c.before.before.before.before.before.before.before.before.before.before.before.before.before.before.before.before.before.before.before.before.before.before) c.before.before.before.before.before.before.before.before.before.before.before.before.before.before.clear3.ensures c.before.before.before.before.before.before.before.before.before.before.ended.given.1
-    (c.before.before.before.before.before.before.before.clear-seeds2.ensures ∙ ap (λ (k : ℕ). replicate k 0) (seeds-long c.before.before.before.before.before.before.before.before.before.before.before.before.before.before.before.before.before.before.before.before.before.before))
-    (cleared-all (length s.args.bitmap.now) c.before.before.before.before.before.before.before.before.before.before.before.before.before.before.before.before.before.before.before.before.before.before.run.new.1.1.1.1.1.1.1.1.0 c.before.before.before.clear4.new.0 (sym (map-long c.before.before.before.before.before.before.before.before.before.before.before.before.before.before.before.before.before.before.before.before.before.before)) c.before.before.before.clear4.ensures))
+    (left_stopped s.requires c.before.before.before.before.before.before.before.before.before.before.before.before.before.before.before.before.before.before.before.before.before.before.run.new.1.1.1.1.1.1.1.1.1.0 c.before.before.before.before.before.before.before.before.before.before.before.before.before.before.before.before.before.before.before.before.before.before.run.ensures c.before.before.before.before.before.before.before.before.before.before.before.before.before.before.before.before.before.before.before.before.before.before.before.before.before.before.before.before.clear2.ensures (part_long c.before.before.before.before.before.before.before.before.before.before.before.before.before.before.before.before.before.before.before.before.before.before) c.before.before.before.before.before.before.before.before.before.before.before.before.before.before.clear3.ensures c.before.before.before.before.before.before.before.before.before.before.ended.given.1
+    (c.before.before.before.before.before.before.before.clear-seeds2.ensures ∙ ap (λ (k : ℕ). replicate k 0) (seeds_long c.before.before.before.before.before.before.before.before.before.before.before.before.before.before.before.before.before.before.before.before.before.before))
+    (cleared_all (length s.args.bitmap.now) c.before.before.before.before.before.before.before.before.before.before.before.before.before.before.before.before.before.before.before.before.before.before.run.new.1.1.1.1.1.1.1.1.0 c.before.before.before.clear4.new.0 (sym (map_long c.before.before.before.before.before.before.before.before.before.before.before.before.before.before.before.before.before.before.before.before.before.before)) c.before.before.before.clear4.ensures))
 
 pub perform-spec : {M : Type 1} → statement M
 perform-spec =

@@ -1,4 +1,4 @@
-use Rattle.sweep.proofs.PerformLaws.{left-refused, usable, performing, left_by}
+use Rattle.sweep.proofs.PerformLaws.{left_refused, usable, performing, left_by}
 use Rattle.sweep.specs.Performing.{Left}
 use Rattle.rules.specs.declared.SweepRecord.{SweepRecord}
 use Rattle.rules.specs.Order.{Input, input_of}
@@ -24,7 +24,7 @@ returns c =
     let a = c.before.before.before.before.before.before.before.before.before.args in
     let l =
     subst (λ (r : SweepRecord). Left (input_of a.settings a.weights a.hashes.now a.begins.now a.table.now) a.how a.seeds.now a.bitmap.now a.work.now r a.seeds.now a.bitmap.now a.work.now) (sym c.refused.ensures)
-    (left-refused c.before.before.check-all.ensures.number c.before.if1.true) in
+    (left_refused c.before.before.check-all.ensures.number c.before.if1.true) in
     (l.answer, (l.given, (l.marked, l.worked)))
 
 geometry-of-requires : tie.Need-geometry-of-requires

@@ -1,10 +1,10 @@
 -- The numbers kept and the scan are at each turn those of the bytes read so far, so that what is printed is their listing.
 -- Assumes nothing.
 use Rattle.list_input.specs.declared.Scan.{Scan}
-use Rattle.list_input.specs.Scan.{fedScan, fedNumbers}
+use Rattle.list_input.specs.Scan.{fed_scan, fed_numbers}
 use Prim.Native.Nat.{ℕ}
 use Rattle.listing.specs.Fed.{Fed, FedBy}
-use Rattle.listing.proofs.FedLaws.{fed-none, fed-more}
+use Rattle.listing.proofs.FedLaws.{fed_none, fed_more}
 use mathlib.Core.Path.{◌≡◌, refl, sym, ap, ◌∙◌}
 use mathlib.Core.List.{List, [], ◌++◌}
 use native.Mathlib.Omega.{arith}
@@ -24,8 +24,8 @@ use Rattle.list_input.proofs.start.Reads as start-reads
 use Rattle.listing.proofs.finish.Reads as finish-reads
 
 -- a chunk more was fed
-fed-on : (chunk : List ℕ) (s t : Scan) (ns after : List ℕ) → Fed s ns → t ≡ fedScan s chunk → after ≡ fedNumbers s ns chunk → Fed t after
-fed-on chunk s t ns after f e g = record { bytes = f.bytes ++ chunk; by = fed-more f.bytes chunk s t ns after f.by e g }
+fed_on : (chunk : List ℕ) (s t : Scan) (ns after : List ℕ) → Fed s ns → t ≡ fed_scan s chunk → after ≡ fed_numbers s ns chunk → Fed t after
+fed_on chunk s t ns after f e g = record { bytes = f.bytes ++ chunk; by = fed_more f.bytes chunk s t ns after f.by e g }
 
 abbrev invariant-loop : tie.invariant-loop
 invariant-loop numbers₀ buffer₀ scan₀ turns₀ numbers buffer scan turns = Fed scan numbers × (length buffer ≡ 65536)
@@ -43,7 +43,7 @@ start-requires c κs = search rules
 
 -- src/main.rt:10:5
 loop-holds : tie.Need-loop-init invariant-loop decreases-loop
-loop-holds c = (record { bytes = []; by = fed-none _ _ c.start.ensures refl }, sym c.before.large-buffer.ensures)
+loop-holds c = (record { bytes = []; by = fed_none _ _ c.start.ensures refl }, sym c.before.large-buffer.ensures)
 
 -- src/main.rt:11:33
 slice-aggregate-read : tie.Need-slice-aggregate-read invariant-loop decreases-loop
@@ -83,7 +83,7 @@ loop-less c = search rules
 
 -- src/main.rt:10:5
 loop-again : tie.Need-loop-preserved invariant-loop decreases-loop
-loop-again c = (fed-on _ _ _ _ _ c.before.before.before.before.before.before.before.before.before.before.loop.invariant.0 c.feed.ensures.0 c.feed.ensures.1, c.before.before.before.before.before.before.before.read.auto.1.0 ∙ c.before.before.before.before.before.before.before.before.before.before.loop.invariant.1)
+loop-again c = (fed_on _ _ _ _ _ c.before.before.before.before.before.before.before.before.before.before.loop.invariant.0 c.feed.ensures.0 c.feed.ensures.1, c.before.before.before.before.before.before.before.read.auto.1.0 ∙ c.before.before.before.before.before.before.before.before.before.before.loop.invariant.1)
 
 -- src/main.rt:19:19
 large-buffer-requires-2 : tie.Need-large-buffer-requires-2 invariant-loop decreases-loop

@@ -1,7 +1,7 @@
-use Rattle.window.proofs.AscLaws.{asc-room}
+use Rattle.window.proofs.AscLaws.{asc_room}
 use Rattle.window.proofs.WindowLaws.{enterable, enters}
-use Rattle.window.specs.Window.{State, stateAt, Ranged, Window, Entering}
-use Rattle.window.specs.Queues.{queuesOf}
+use Rattle.window.specs.Window.{State, state_at, Ranged, Window, Entering}
+use Rattle.window.specs.Queues.{queues_of}
 use Rattle.rules.specs.Order.{Input}
 use lib.IntN.{ℤ}
 use borrow.Author.Rules.{rules}
@@ -21,19 +21,19 @@ use Rattle.window.proofs.smaller.Reads as smaller-reads
 abbrev Filling : List ℕ → List ℤ → ℕ → State → State → Type 0
 Filling begins table hi s₀ s = (i : Input) (lo k : ℕ) (rest : List ℕ) → Ranged i begins table hi → Window i lo hi k s₀ rest → Window i lo hi k s rest
 
-oldest-low : {begins : List ℕ} {table : List ℤ} {hi : ℕ} {s : State} → Entering begins table hi s → s.oldest ≤ 67108865
-oldest-low {s = s} d = omega (arith, d.ranged.few, d.window.end, asc-room s.oldest s.next d.window.inside d.window.holds.asc)
+oldest_low : {begins : List ℕ} {table : List ℤ} {hi : ℕ} {s : State} → Entering begins table hi s → s.oldest ≤ 67108865
+oldest_low {s = s} d = omega (arith, d.ranged.few, d.window.end, asc_room s.oldest s.next d.window.inside d.window.holds.asc)
 
 abbrev invariant-loop : tie.invariant-loop
 invariant-loop queues₀ heads lengths₀ keys₀ table set₀ begins hi o to on₀ n₀ b₀ queues lengths keys set on n b =
     (b ≤ to)
-    × Filling begins table hi (stateAt (queuesOf queues₀ heads lengths₀ keys₀ on₀) set₀ n₀ o b₀) (stateAt (queuesOf queues heads lengths keys on) set n o b)
+    × Filling begins table hi (state_at (queues_of queues₀ heads lengths₀ keys₀ on₀) set₀ n₀ o b₀) (state_at (queues_of queues heads lengths keys on) set n o b)
 
 abbrev decreases-loop : tie.decreases-loop
 decreases-loop queues₀ heads lengths₀ keys₀ table set₀ begins hi o to on₀ n₀ b₀ queues lengths keys set on n b = to - b
 
 add-smaller : tie.Need-overflow-add-smaller invariant-loop decreases-loop
-add-smaller c = let d = c.before.requires in omega (arith, oldest-low d)
+add-smaller c = let d = c.before.requires in omega (arith, oldest_low d)
 
 smaller-requires : tie.Need-smaller-requires invariant-loop decreases-loop
 smaller-requires c κs = search rules
@@ -55,7 +55,7 @@ enter-requires c κs =
     let t = c.before.before.before.before.before.loop-test.true in
     let m = c.before.before.before.before.before.before.before.smaller.ensures in
     enterable d.i s.args.begins.now s.args.table.now s.args.hi d.ranged d.lo d.k
-    (queuesOf l.queues s.args.heads.now l.lengths l.keys l.on) l.set l.n s.args.view.oldest l.b d.rest
+    (queues_of l.queues s.args.heads.now l.lengths l.keys l.on) l.set l.n s.args.view.oldest l.b d.rest
     (l.invariant.1 d.i d.lo d.k d.rest d.ranged d.window) (omega arith) (omega arith) c.before.before.before.before.size_of.result c.before.before.before.before.size_of.ensures.0
 
 add-b : tie.Need-overflow-add-b invariant-loop decreases-loop
@@ -73,7 +73,7 @@ loop-again c =
       omega arith,
       λ i lo k rest g w.
           enters i s.args.begins.now s.args.table.now s.args.hi g lo k
-          (queuesOf l.queues s.args.heads.now l.lengths l.keys l.on) l.set l.n s.args.view.oldest l.b rest
+          (queues_of l.queues s.args.heads.now l.lengths l.keys l.on) l.set l.n s.args.view.oldest l.b rest
           (l.invariant.1 i lo k rest g w) (omega arith) (omega arith) c.before.before.before.before.before.size_of.result c.before.before.before.before.before.size_of.ensures.0 _ _ _ c.enter.ensures,
     )
 

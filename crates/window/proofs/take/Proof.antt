@@ -1,7 +1,7 @@
-use Rattle.window.proofs.WindowLaws.{ready, reaches, look, pop-range, pop-other, pop-oldest}
-use Rattle.window.specs.Queues.{queuesOf}
+use Rattle.window.proofs.WindowLaws.{ready, reaches, look, pop_range, pop_other, pop_oldest}
+use Rattle.window.specs.Queues.{queues_of}
 use Rattle.words.specs.Map.{cleared}
-use Rattle.words.specs.MapLaws.{length-cleared}
+use Rattle.words.specs.MapLaws.{length_cleared}
 use lib.ListN.{length}
 use native.Mathlib.Omega.{arith}
 use Prim.Native.Nat.{ℕ}
@@ -18,15 +18,15 @@ use Rattle.window.proofs.pop.Reads as pop-reads
 use Rattle.words.proofs.clear_bit.Reads as clear-bit-reads
 
 -- the set once a bucket is cleared
-cleared-long : (set set' : List ℕ) (b : ℕ) → set' ≡ cleared set b → length set ≡ 16 → length set' ≡ 16
-cleared-long set set' b e l = ap length e ∙ length-cleared set b ∙ l
+cleared_long : (set set' : List ℕ) (b : ℕ) → set' ≡ cleared set b → length set ≡ 16 → length set' ≡ 16
+cleared_long set set' b e l = ap length e ∙ length_cleared set b ∙ l
 
 pop-requires : tie.Need-pop-requires
 pop-requires c κs =
     let s = c.before.before.before.before in
     let d = s.requires.0 in
     let v = s.args.view in
-    ready d.i s.args.begins.now s.args.table.now s.args.hi d.ranged d.lo d.k (queuesOf s.args.queues.now s.args.heads.now s.args.lengths.now s.args.keys.now v.nonempty)
+    ready d.i s.args.begins.now s.args.table.now s.args.hi d.ranged d.lo d.k (queues_of s.args.queues.now s.args.heads.now s.args.lengths.now s.args.keys.now v.nonempty)
     s.args.set.now v.large v.oldest v.next d.full s.requires.1
 
 clear-bit-requires : tie.Need-clear-bit-requires
@@ -39,7 +39,7 @@ add-first-in c =
     let v = s.args.view in
     omega (
       arith,
-      reaches d.i s.args.begins.now s.args.table.now s.args.hi d.ranged d.lo d.k (queuesOf s.args.queues.now s.args.heads.now s.args.lengths.now s.args.keys.now v.nonempty)
+      reaches d.i s.args.begins.now s.args.table.now s.args.hi d.ranged d.lo d.k (queues_of s.args.queues.now s.args.heads.now s.args.lengths.now s.args.keys.now v.nonempty)
           s.args.set.now v.large v.oldest v.next d.full,
     )
 
@@ -48,13 +48,13 @@ first-in-requires c κs =
     let s = c.before.before.before.before.before.before.before.before.before in
     let d = s.requires.0 in
     let v = s.args.view in
-    let r = reaches d.i s.args.begins.now s.args.table.now s.args.hi d.ranged d.lo d.k (queuesOf s.args.queues.now s.args.heads.now s.args.lengths.now s.args.keys.now v.nonempty)
+    let r = reaches d.i s.args.begins.now s.args.table.now s.args.hi d.ranged d.lo d.k (queues_of s.args.queues.now s.args.heads.now s.args.lengths.now s.args.keys.now v.nonempty)
     s.args.set.now v.large v.oldest v.next d.full in
-    let p = pop-range d.i s.args.begins.now s.args.table.now s.args.hi d.ranged d.lo d.k (queuesOf s.args.queues.now s.args.heads.now s.args.lengths.now s.args.keys.now v.nonempty)
+    let p = pop_range d.i s.args.begins.now s.args.table.now s.args.hi d.ranged d.lo d.k (queues_of s.args.queues.now s.args.heads.now s.args.lengths.now s.args.keys.now v.nonempty)
     s.args.set.now v.large v.oldest v.next d.full _ _ c.before.before.before.before.pop.ensures in
     let same = c.before.if1.true in (
       (omega (arith, p, same), (omega (arith, d.full.window.holds.narrow), omega (arith, r))),
-      cleared-long s.args.set.now _ _ c.before.before.clear-bit.ensures d.full.window.holds.marks.long,
+      cleared_long s.args.set.now _ _ c.before.before.clear-bit.ensures d.full.window.holds.marks.long,
     )
 
 left-requires : tie.Need-left-requires
@@ -62,11 +62,11 @@ left-requires c κs =
     let s = c.before.before.before.before.before.before.before.before.before.before.before in
     let d = s.requires.0 in
     let v = s.args.view in
-    let p = pop-range d.i s.args.begins.now s.args.table.now s.args.hi d.ranged d.lo d.k (queuesOf s.args.queues.now s.args.heads.now s.args.lengths.now s.args.keys.now v.nonempty)
+    let p = pop_range d.i s.args.begins.now s.args.table.now s.args.hi d.ranged d.lo d.k (queues_of s.args.queues.now s.args.heads.now s.args.lengths.now s.args.keys.now v.nonempty)
     s.args.set.now v.large v.oldest v.next d.full _ _ c.before.before.before.before.before.before.pop.ensures in
-    let r = c.before.first-in.ensures in (
-      look d.i s.args.begins.now s.args.table.now s.args.hi d.ranged d.lo d.k (queuesOf s.args.queues.now s.args.heads.now s.args.lengths.now s.args.keys.now v.nonempty)
-          s.args.set.now v.large v.oldest v.next d.full _ c.before.first-in.result (cleared-long s.args.set.now _ _ c.before.before.before.before.clear-bit.ensures d.full.window.holds.marks.long)
+    let r = c.before.first_in.ensures in (
+      look d.i s.args.begins.now s.args.table.now s.args.hi d.ranged d.lo d.k (queues_of s.args.queues.now s.args.heads.now s.args.lengths.now s.args.keys.now v.nonempty)
+          s.args.set.now v.large v.oldest v.next d.full _ c.before.first_in.result (cleared_long s.args.set.now _ _ c.before.before.before.before.clear-bit.ensures d.full.window.holds.marks.long)
           (omega (arith, r.from)) r.to,
       p.1,
     )
@@ -76,11 +76,11 @@ returns c =
     let s = c.before.before.before.before.before.before.before.before.before.before.before.before in
     let v = s.args.view in
     let d = s.requires.0 in
-    let near = pop-range d.i s.args.begins.now s.args.table.now s.args.hi d.ranged d.lo d.k (queuesOf s.args.queues.now s.args.heads.now s.args.lengths.now s.args.keys.now v.nonempty)
+    let near = pop_range d.i s.args.begins.now s.args.table.now s.args.hi d.ranged d.lo d.k (queues_of s.args.queues.now s.args.heads.now s.args.lengths.now s.args.keys.now v.nonempty)
     s.args.set.now v.large v.oldest v.next d.full _ _ c.before.before.before.before.before.before.before.pop.ensures in (
-      λ i lo k g f. pop-oldest i s.args.begins.now s.args.table.now s.args.hi g lo k (queuesOf s.args.queues.now s.args.heads.now s.args.lengths.now s.args.keys.now v.nonempty)
-          s.args.set.now v.large v.oldest v.next f _ _ c.before.before.before.before.before.before.before.pop.ensures _ c.left.result c.before.before.first-in.result c.before.before.before.before.before.clear-bit.ensures c.left.ensures
-          c.before.before.before.before.if1.true c.before.before.first-in.ensures,
+      λ i lo k g f. pop_oldest i s.args.begins.now s.args.table.now s.args.hi g lo k (queues_of s.args.queues.now s.args.heads.now s.args.lengths.now s.args.keys.now v.nonempty)
+          s.args.set.now v.large v.oldest v.next f _ _ c.before.before.before.before.before.before.before.pop.ensures _ c.left.result c.before.before.first_in.result c.before.before.before.before.before.clear-bit.ensures c.left.ensures
+          c.before.before.before.before.if1.true c.before.before.first_in.ensures,
       (near.0, omega (arith, near.1, d.full.window.holds.narrow)),
     )
 
@@ -89,12 +89,12 @@ left-requires-2 c κs =
     let s = c.before.before.before.before.before.before.before.before.before in
     let d = s.requires.0 in
     let v = s.args.view in
-    let r = reaches d.i s.args.begins.now s.args.table.now s.args.hi d.ranged d.lo d.k (queuesOf s.args.queues.now s.args.heads.now s.args.lengths.now s.args.keys.now v.nonempty)
+    let r = reaches d.i s.args.begins.now s.args.table.now s.args.hi d.ranged d.lo d.k (queues_of s.args.queues.now s.args.heads.now s.args.lengths.now s.args.keys.now v.nonempty)
     s.args.set.now v.large v.oldest v.next d.full in
-    let p = pop-range d.i s.args.begins.now s.args.table.now s.args.hi d.ranged d.lo d.k (queuesOf s.args.queues.now s.args.heads.now s.args.lengths.now s.args.keys.now v.nonempty)
+    let p = pop_range d.i s.args.begins.now s.args.table.now s.args.hi d.ranged d.lo d.k (queues_of s.args.queues.now s.args.heads.now s.args.lengths.now s.args.keys.now v.nonempty)
     s.args.set.now v.large v.oldest v.next d.full _ _ c.before.before.before.before.pop.ensures in (
-      look d.i s.args.begins.now s.args.table.now s.args.hi d.ranged d.lo d.k (queuesOf s.args.queues.now s.args.heads.now s.args.lengths.now s.args.keys.now v.nonempty)
-          s.args.set.now v.large v.oldest v.next d.full _ v.oldest (cleared-long s.args.set.now _ _ c.before.before.clear-bit.ensures d.full.window.holds.marks.long)
+      look d.i s.args.begins.now s.args.table.now s.args.hi d.ranged d.lo d.k (queues_of s.args.queues.now s.args.heads.now s.args.lengths.now s.args.keys.now v.nonempty)
+          s.args.set.now v.large v.oldest v.next d.full _ v.oldest (cleared_long s.args.set.now _ _ c.before.before.clear-bit.ensures d.full.window.holds.marks.long)
           (omega arith) r.0,
       p.1,
     )
@@ -104,9 +104,9 @@ returns-2 c =
     let s = c.before.before.before.before.before.before.before.before.before.before in
     let v = s.args.view in
     let d = s.requires.0 in
-    let near = pop-range d.i s.args.begins.now s.args.table.now s.args.hi d.ranged d.lo d.k (queuesOf s.args.queues.now s.args.heads.now s.args.lengths.now s.args.keys.now v.nonempty)
+    let near = pop_range d.i s.args.begins.now s.args.table.now s.args.hi d.ranged d.lo d.k (queues_of s.args.queues.now s.args.heads.now s.args.lengths.now s.args.keys.now v.nonempty)
     s.args.set.now v.large v.oldest v.next d.full _ _ c.before.before.before.before.before.pop.ensures in (
-      λ i lo k g f. pop-other i s.args.begins.now s.args.table.now s.args.hi g lo k (queuesOf s.args.queues.now s.args.heads.now s.args.lengths.now s.args.keys.now v.nonempty)
+      λ i lo k g f. pop_other i s.args.begins.now s.args.table.now s.args.hi g lo k (queues_of s.args.queues.now s.args.heads.now s.args.lengths.now s.args.keys.now v.nonempty)
           s.args.set.now v.large v.oldest v.next f _ _ c.before.before.before.before.before.pop.ensures _ c.left2.result c.before.before.before.clear-bit.ensures c.left2.ensures c.before.before.if1.false,
       (near.0, omega (arith, near.1, d.full.window.holds.narrow)),
     )

@@ -3,7 +3,7 @@
 use Prim.Native.Nat.{◌/◌, ◌%◌}
 use native.Mathlib.Omega.{arith}
 use Rattle.words.specs.Map.{cleared}
-use Rattle.words.specs.MapLaws.{clear-code}
+use Rattle.words.specs.MapLaws.{clear_code}
 use borrow.Author.Rules.{rules}
 use Rattle.words.proofs.clear_bit.Statement.{statement}
 use Rattle.words.proofs.clear_bit.Tie as tie
@@ -27,7 +27,7 @@ returns : tie.Need-returns
 unfolding cleared
 returns c =
     let p = c.before.args.p in
-    clear-code c.before.args.bits.now (p / 64) (p % 64) (omega arith)
+    clear_code c.before.args.bits.now (p / 64) (p % 64) (omega arith)
 
 pub clear-bit-spec : {M : Type 1} → statement M
 clear-bit-spec =

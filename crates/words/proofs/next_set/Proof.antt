@@ -3,8 +3,8 @@
 use mathlib.Core.Path.{sym}
 use Prim.Native.Nat.{◌-◌}
 use native.Mathlib.Omega.{arith}
-use Rattle.words.specs.NextLaws.{next-none}
-use Rattle.words.proofs.Scan.{Scan, scan-start, scan_step, scan-none, scan-tz, scan-from, scan-at, scan-past}
+use Rattle.words.specs.NextLaws.{next_none}
+use Rattle.words.proofs.Scan.{Scan, scan_start_lem, scan_step, scan_none, scan_tz, scan_from, scan_at, scan_past}
 use Rattle.words.proofs.next_set.Statement.{statement}
 use Rattle.words.proofs.next_set.Tie as tie
 
@@ -17,7 +17,7 @@ decreases-loop bits begin end last w₀ word₀ w word = last - w
 returns : tie.Need-returns invariant-loop decreases-loop
 returns c =
     let a = c.before.args in
-    (sym (next-none a.bits.now a.begin a.end (omega arith) (λ k h l. absurd (omega arith))), omega arith, omega arith)
+    (sym (next_none a.bits.now a.begin a.end (omega arith) (λ k h l. absurd (omega arith))), omega arith, omega arith)
 
 sub-last : tie.Need-overflow-sub-last invariant-loop decreases-loop
 sub-last c = omega arith
@@ -32,10 +32,10 @@ shl-word : tie.Need-overflow-shl-word invariant-loop decreases-loop
 shl-word c = omega arith
 
 loop-holds : tie.Need-loop-init invariant-loop decreases-loop
-loop-holds c = scan-start _ _ _ (omega arith) (c.shared-slice-known.given _).fits
+loop-holds c = scan_start_lem _ _ _ (omega arith) (c.shared-slice-known.given _).fits
 
 returns-2 : tie.Need-returns-2 invariant-loop decreases-loop
-returns-2 c = (sym (scan-none c.before.before.loop.invariant c.before.loop-test.true (omega arith)), omega arith, omega arith)
+returns-2 c = (sym (scan_none c.before.before.loop.invariant c.before.loop-test.true (omega arith)), omega arith, omega arith)
 
 add-w : tie.Need-overflow-add-w invariant-loop decreases-loop
 add-w c = omega arith
@@ -56,19 +56,19 @@ mul-j : tie.Need-overflow-mul-j invariant-loop decreases-loop
 mul-j c = omega arith
 
 cast-j : tie.Need-overflow-cast-j invariant-loop decreases-loop
-cast-j c = omega (arith, scan-tz c.before.loop.invariant c.loop-test.false)
+cast-j c = omega (arith, scan_tz c.before.loop.invariant c.loop-test.false)
 
 add-j : tie.Need-overflow-add-j invariant-loop decreases-loop
-add-j c = omega (arith, scan-tz c.before.loop.invariant c.loop-test.false)
+add-j c = omega (arith, scan_tz c.before.loop.invariant c.loop-test.false)
 
 returns-3 : tie.Need-returns-3 invariant-loop decreases-loop
 returns-3 c =
     let i = c.before.before.loop.invariant in
     let n = c.before.loop-test.false in
-    (sym (scan-at i n (omega arith)), scan-from i n, omega arith)
+    (sym (scan_at i n (omega arith)), scan_from i n, omega arith)
 
 returns-4 : tie.Need-returns-4 invariant-loop decreases-loop
-returns-4 c = (sym (scan-past c.before.before.loop.invariant c.before.loop-test.false (omega arith)), omega arith, omega arith)
+returns-4 c = (sym (scan_past c.before.before.loop.invariant c.before.loop-test.false (omega arith)), omega arith, omega arith)
 
 pub next-set-spec : {M : Type 1} → statement M
 next-set-spec =

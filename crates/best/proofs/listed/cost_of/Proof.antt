@@ -1,7 +1,7 @@
 -- The keys of the number's layout at its rotation. Assumes nothing.
 use mathlib.Core.Path.{◌∙◌}
-use Rattle.rings.specs.Parts.{part-range}
-use Rattle.best.proofs.FlatLaws.{cost-code}
+use Rattle.rings.specs.Parts.{part_range}
+use Rattle.best.proofs.FlatLaws.{cost_code}
 use borrow.Author.Rules.{rules}
 use Rattle.best.proofs.listed.cost_of.Statement.{statement}
 use Rattle.best.proofs.listed.cost_of.Tie as tie
@@ -34,10 +34,10 @@ part-cost-end : tie.Need-slice-bounds-cost-end
 part-cost-end c = search rules
 
 cost-requires : tie.Need-cost-requires
-cost-requires c κs = let s = c.before.before.before.before in (s.requires.0, (rw (part-range) s.requires.1.0, c.before.rotation-of.ensures.1))
+cost-requires c κs = let s = c.before.before.before.before in (s.requires.0, (rw (part_range) s.requires.1.0, c.before.rotation-of.ensures.1))
 
 returns : tie.Need-returns
-returns c = let s = c.before.before.before.before.before in c.cost.ensures.0 ∙ cost-code s.args.g s.args.table.now s.args.work.now s.args.at s.args.size s.args.shift s.args.q c.before.before.rotation-of.ensures.0
+returns c = let s = c.before.before.before.before.before in c.cost.ensures.0 ∙ cost_code s.args.g s.args.table.now s.args.work.now s.args.at s.args.size s.args.shift s.args.q c.before.before.rotation-of.ensures.0
 
 pub cost-of-spec : {M : Type 1} → statement M
 cost-of-spec =

@@ -2,7 +2,7 @@
 use Prim.Native.Nat.{◌-◌}
 use native.Mathlib.Omega.{arith}
 use lib.ListN.{length-set}
-use Rattle.best.proofs.ListLaws.{ListedTo, to_none, to_room, to-more, to_end}
+use Rattle.best.proofs.ListLaws.{ListedTo, to_none, to_room, to_more, to_end}
 use borrow.Author.Rules.{rules}
 use Rattle.best.proofs.listed.list_words.Statement.{statement}
 use Rattle.best.proofs.listed.list_words.Tie as tie
@@ -56,7 +56,7 @@ loop-less : tie.Need-loop-smaller invariant-loop decreases-loop
 loop-less c = search rules
 
 loop-again : tie.Need-loop-preserved invariant-loop decreases-loop
-loop-again c = let s = c.before.before.before.before.before in to-more c.before.before.before.loop.invariant s.requires.0 s.requires.1 c.before.before.loop-test.true c.some.ensures.0
+loop-again c = let s = c.before.before.before.before.before in to_more c.before.before.before.loop.invariant s.requires.0 s.requires.1 c.before.before.loop-test.true c.some.ensures.0
 
 same_length : tie.Need-same-length invariant-loop decreases-loop
 same_length c = c.before.loop.invariant.kept.len

@@ -1,6 +1,6 @@
 -- The mask of 2^shift - 1 is the remainder by 2^shift. Assumes nothing.
 use native.Mathlib.Omega.{arith}
-use Rattle.best.proofs.FlatLaws.{shl-pos, low-code, low_small}
+use Rattle.best.proofs.FlatLaws.{shl_pos, low_code, low_small}
 use borrow.Author.Rules.{rules}
 use Rattle.best.proofs.listed.rotation_of.Statement.{statement}
 use Rattle.best.proofs.listed.rotation_of.Tie as tie
@@ -9,10 +9,10 @@ shl-result : tie.Need-overflow-shl-result
 shl-result c = search rules
 
 sub-result : tie.Need-overflow-sub-result
-sub-result c = shl-pos _ c.requires
+sub-result c = shl_pos _ c.requires
 
 returns : tie.Need-returns
-returns c = (low-code _ _ c.requires, low_small c.args.q _ c.requires)
+returns c = (low_code _ _ c.requires, low_small c.args.q _ c.requires)
 
 pub rotation-of-spec : {M : Type 1} → statement M
 rotation-of-spec = tie.close (tie.spec shl-result sub-result returns)

@@ -1,8 +1,8 @@
 -- The keys and free words lie below the wrap points, so filling those leaves them. Assumes nothing.
 use native.Mathlib.Omega.{arith}
 use borrow.Author.Rules.{rules}
-use Rattle.best.specs.Kept.{kept-range}
-use Rattle.best.specs.WrapLaws.{free-room, wraps-room, points-here}
+use Rattle.best.specs.Kept.{kept_range}
+use Rattle.best.specs.WrapLaws.{free_room, wraps_room, points_here}
 use Rattle.best.proofs.many.best_between.Statement.{statement}
 use Rattle.best.proofs.many.best_between.Tie as tie
 
@@ -60,10 +60,10 @@ best-segments-requires c κs = let s = c.before.before.before.before.before.befo
     let w = c.before.before.before.before.before.before.fill-wraps.ensures in (
       s.requires.0,
       (
-        rw (kept-range s.args.a s.args.size w.kept p.0) s.requires.1.0,
+        rw (kept_range s.args.a s.args.size w.kept p.0) s.requires.1.0,
         (
-          (free-room w s.args.g.n p.3 p.2 s.args.f p.1, wraps-room w s.args.g.n p.3 p.2),
-          points-here s.args.a s.args.size s.requires.0 w p.3 p.0 (omega arith),
+          (free_room w s.args.g.n p.3 p.2 s.args.f p.1, wraps_room w s.args.g.n p.3 p.2),
+          points_here s.args.a s.args.size s.requires.0 w p.3 p.0 (omega arith),
         ),
       ),
     )
@@ -75,7 +75,7 @@ returns : tie.Need-returns
 returns c = let s = c.before.before.before.before.before.before.before.before.before.before.before in
     let p = s.requires.1.1 in
     let w = c.before.before.before.before.before.before.before.fill-wraps.ensures.kept in
-    (rw (kept-range s.args.a s.args.size w p.0, kept-range s.args.f s.args.count w p.1) at c.best-segments.ensures, w)
+    (rw (kept_range s.args.a s.args.size w p.0, kept_range s.args.f s.args.count w p.1) at c.best-segments.ensures, w)
 
 pub best-between-spec : {M : Type 1} → statement M
 best-between-spec =

@@ -6,7 +6,7 @@ use native.Mathlib.Omega.{arith}
 use borrow.Author.Rules.{rules}
 use Rattle.rings.specs.Parts.{part, length_part}
 use Rattle.best.specs.Kept.{Kept, kept_self, kept_on}
-use Rattle.best.specs.Layouts.{Trying, trying-none, trying-more, trying-end, row-le, prices-layout, layout-part}
+use Rattle.best.specs.Layouts.{Trying, trying_none, trying_more, trying_end, row_le, prices_layout, layout_part}
 use Rattle.best.proofs.many.best_many.Statement.{statement}
 use Rattle.best.proofs.many.best_many.Tie as tie
 
@@ -17,28 +17,28 @@ abbrev decreases-loop : tie.decreases-loop
 decreases-loop g table work₀ at size to count up layouts best₀ a₀ f₀ r₀ work best a f r = layouts - r
 
 loop-holds : tie.Need-loop-init invariant-loop decreases-loop
-loop-holds c = ((trying-none _ _ _ _ _ _ _, kept_self _ _), omega arith, omega arith)
+loop-holds c = ((trying_none _ _ _ _ _ _ _, kept_self _ _), omega arith, omega arith)
 
 best-between-requires : tie.Need-best-between-requires invariant-loop decreases-loop
 best-between-requires c κs = let s = c.before.before.before.before.before in
     let p = s.requires.1.1 in
     let l = c.before.before.loop in
     let lt = c.before.loop-test.true in
-    let k = row-le l.r s.args.layouts s.args.size lt in
-    let f = row-le l.r s.args.layouts s.args.count lt in (
+    let k = row_le l.r s.args.layouts s.args.size lt in
+    let f = row_le l.r s.args.layouts s.args.count lt in (
       s.requires.0,
       (
-        rw (layout-part s.args.at s.args.size s.args.layouts l.r l.a l.invariant.0.1 (omega arith) lt l.invariant.1)
-            (prices-layout s.args.size s.args.layouts l.r s.requires.1.0 (length_part s.args.work.now s.args.at (s.args.layouts * s.args.size) (omega arith)) lt),
+        rw (layout_part s.args.at s.args.size s.args.layouts l.r l.a l.invariant.0.1 (omega arith) lt l.invariant.1)
+            (prices_layout s.args.size s.args.layouts l.r s.requires.1.0 (length_part s.args.work.now s.args.at (s.args.layouts * s.args.size) (omega arith)) lt),
         (omega arith, omega arith, omega (arith, l.invariant.0.1.len), p.3),
       ),
     )
 
 add_a : tie.Need-overflow-add-a invariant-loop decreases-loop
-add_a c = let s = c.before.before.before.before.before.before.before.before in omega (arith, row-le _ _ s.args.size c.before.before.before.before.loop-test.true)
+add_a c = let s = c.before.before.before.before.before.before.before.before in omega (arith, row_le _ _ s.args.size c.before.before.before.before.loop-test.true)
 
 add-f : tie.Need-overflow-add-f invariant-loop decreases-loop
-add-f c = let s = c.before.before.before.before.before.before.before.before in omega (arith, row-le _ _ s.args.count c.before.before.before.before.loop-test.true)
+add-f c = let s = c.before.before.before.before.before.before.before.before in omega (arith, row_le _ _ s.args.count c.before.before.before.before.loop-test.true)
 
 add_r : tie.Need-overflow-add-r invariant-loop decreases-loop
 add_r c = search rules
@@ -52,9 +52,9 @@ loop-again c = let s = c.before.before.before.before.before.before.before.before
     let lt = c.before.before.before.before.loop-test.true in
     let e = c.before.before.best-between.ensures in (
       (
-        trying-more l.invariant.0.0 lt
-            (layout-part s.args.at s.args.size s.args.layouts l.r l.a l.invariant.0.1 (omega arith) lt l.invariant.1)
-            (layout-part s.args.to s.args.count s.args.layouts l.r l.f l.invariant.0.1 (omega arith) lt l.invariant.2)
+        trying_more l.invariant.0.0 lt
+            (layout_part s.args.at s.args.size s.args.layouts l.r l.a l.invariant.0.1 (omega arith) lt l.invariant.1)
+            (layout_part s.args.to s.args.count s.args.layouts l.r l.f l.invariant.0.1 (omega arith) lt l.invariant.2)
             e.0,
         kept_on l.invariant.0.1 e.1,
       ),
@@ -66,7 +66,7 @@ same_length : tie.Need-same-length invariant-loop decreases-loop
 same_length c = c.before.loop.invariant.0.1.len
 
 returns : tie.Need-returns invariant-loop decreases-loop
-returns c = (trying-end c.before.loop.invariant.0.0 c.loop-test.false, c.before.loop.invariant.0.1)
+returns c = (trying_end c.before.loop.invariant.0.0 c.loop-test.false, c.before.loop.invariant.0.1)
 
 pub best-many-spec : {M : Type 1} → statement M
 best-many-spec =

@@ -6,7 +6,7 @@ use native.Mathlib.Omega.{arith}
 use lib.ListN.{length}
 use borrow.Author.Rules.{rules}
 use Rattle.rings.specs.RingLaws.{n_pos}
-use Rattle.best.specs.PriceLaws.{sum_to, sum-none, sum_more, sum-cost, sum_fits, code_fits, code_in}
+use Rattle.best.specs.PriceLaws.{sum_to, sum_none, sum_more, sum_cost, sum_fits, code_fits, code_in}
 use Rattle.best.proofs.price.cost.Statement.{statement}
 use Rattle.best.proofs.price.cost.Tie as tie
 
@@ -26,7 +26,7 @@ shl-mask : tie.Need-overflow-shl-mask invariant-loop decreases-loop
 shl-mask c = search rules
 
 loop-holds : tie.Need-loop-init invariant-loop decreases-loop
-loop-holds c = (omega arith, sym (sum-none _ _ _ _), omega arith)
+loop-holds c = (omega arith, sym (sum_none _ _ _ _), omega arith)
 
 mul-d : tie.Need-overflow-mul-d invariant-loop decreases-loop
 mul-d c = search rules
@@ -68,7 +68,7 @@ loop-again c = let s = c.before.before.before.before.before.before.before.before
 returns : tie.Need-returns invariant-loop decreases-loop
 returns c = let s = c.before.before.before.before.before.before.before in
     let e : c.before.loop.i ≡ length s.args.keys.now = omega arith in
-    (rw e at c.before.loop.invariant.1 ∙ sum-cost s.args.g s.requires.0 s.args.table.now s.args.keys.now s.args.j s.requires.1.1, omega (arith, s.requires.1.0.size))
+    (rw e at c.before.loop.invariant.1 ∙ sum_cost s.args.g s.requires.0 s.args.table.now s.args.keys.now s.args.j s.requires.1.1, omega (arith, s.requires.1.0.size))
 
 pub cost-spec : {M : Type 1} → statement M
 cost-spec =

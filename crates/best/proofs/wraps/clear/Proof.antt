@@ -2,7 +2,7 @@
 use Prim.Native.Nat.{◌-◌}
 use native.Mathlib.Omega.{arith}
 use borrow.Author.Rules.{rules}
-use Rattle.best.specs.WrapLaws.{Clearing, clearing-none, clearing-more, clearing-end}
+use Rattle.best.specs.WrapLaws.{Clearing, clearing_none, clearing_more, clearing_end}
 use Rattle.best.proofs.wraps.clear.Statement.{statement}
 use Rattle.best.proofs.wraps.clear.Tie as tie
 
@@ -13,7 +13,7 @@ abbrev decreases-loop : tie.decreases-loop
 decreases-loop work₀ up count i₀ work i = count - i
 
 loop-holds : tie.Need-loop-init invariant-loop decreases-loop
-loop-holds c = clearing-none _ _ _
+loop-holds c = clearing_none _ _ _
 
 add-work : tie.Need-overflow-add-work invariant-loop decreases-loop
 add-work c = omega (arith, c.before.loop.invariant.kept.len)
@@ -31,13 +31,13 @@ loop-less : tie.Need-loop-smaller invariant-loop decreases-loop
 loop-less c = search rules
 
 loop-again : tie.Need-loop-preserved invariant-loop decreases-loop
-loop-again c = clearing-more c.before.loop.invariant c.loop-test.true c.before.before.requires
+loop-again c = clearing_more c.before.loop.invariant c.loop-test.true c.before.before.requires
 
 same_length : tie.Need-same-length invariant-loop decreases-loop
 same_length c = c.before.loop.invariant.kept.len
 
 returns : tie.Need-returns invariant-loop decreases-loop
-returns c = clearing-end c.before.loop.invariant c.loop-test.false c.before.before.requires
+returns c = clearing_end c.before.loop.invariant c.loop-test.false c.before.before.requires
 
 pub clear_spec : {M : Type 1} → statement M
 clear_spec =

@@ -1,6 +1,6 @@
 -- A key at place 0 has no wrap point; any other has the bit n - x, which is one of the set's. Assumes nothing.
 use borrow.Author.Rules.{rules}
-use Rattle.best.specs.WrapLaws.{point-none, point-set}
+use Rattle.best.specs.WrapLaws.{point_none, point_set}
 use Rattle.best.proofs.wraps.set_point.Statement.{statement}
 use Rattle.best.proofs.wraps.set_point.Tie as tie
 
@@ -8,7 +8,7 @@ place-of-requires : tie.Need-place-of-requires
 place-of-requires c κs = search rules
 
 returns : tie.Need-returns
-returns c = point-none _ _ _ _ _ c.before.place_of.ensures c.if1.true
+returns c = point_none _ _ _ _ _ c.before.place_of.ensures c.if1.true
 
 sub-p : tie.Need-overflow-sub-p
 sub-p c = search rules
@@ -35,7 +35,7 @@ same_length : tie.Need-same-length
 same_length c = search rules
 
 returns-2 : tie.Need-returns-2
-returns-2 c = point-set _ _ _ _ _ c.before.before.before.place_of.ensures c.before.before.if1.false c.before.before.before.before.before.requires.1.1
+returns-2 c = point_set _ _ _ _ _ c.before.before.before.place_of.ensures c.before.before.if1.false c.before.before.before.before.before.requires.1.1
 
 pub set-point-spec : {M : Type 1} → statement M
 set-point-spec =

@@ -7,7 +7,7 @@ use native.Mathlib.Omega.{arith}
 use lib.ListN.{length, set}
 use lib.Seq.{paste}
 use Rattle.exports.specs.Positions.{slot_of}
-use Rattle.exports.proofs.Fill.{filled-length, filled_more, filled-all}
+use Rattle.exports.proofs.Fill.{filled_length, filled_more, filled_all}
 use Rattle.exports.proofs.asking.fill_in.Statement.{statement}
 use Rattle.exports.proofs.asking.fill_in.Tie as tie
 
@@ -36,7 +36,7 @@ slice-write-slots : tie.Need-slice-write-slots invariant-loop decreases-loop
 slice-write-slots c =
     let a = c.before.before.before.before.before.before.before.args in
     let l = c.before.before.before.loop in
-    omega (arith, ap length l.invariant.1, filled-length (slot_of a.g.settings a.seeds.now) a.hashes.now a.slots.now c.before.before.before.before.before.before.before.requires.1.1 l.i l.invariant.0)
+    omega (arith, ap length l.invariant.1, filled_length (slot_of a.g.settings a.seeds.now) a.hashes.now a.slots.now c.before.before.before.before.before.before.before.requires.1.1 l.i l.invariant.0)
 
 add-i : tie.Need-overflow-add-i invariant-loop decreases-loop
 add-i c = search rules
@@ -54,13 +54,13 @@ same_length : tie.Need-same-length invariant-loop decreases-loop
 same_length c =
     let a = c.before.before.before.before.before.args in
     let l = c.before.loop in
-    ap length l.invariant.1 ∙ filled-length (slot_of a.g.settings a.seeds.now) a.hashes.now a.slots.now c.before.before.before.before.before.requires.1.1 l.i l.invariant.0
+    ap length l.invariant.1 ∙ filled_length (slot_of a.g.settings a.seeds.now) a.hashes.now a.slots.now c.before.before.before.before.before.requires.1.1 l.i l.invariant.0
 
 returns : tie.Need-returns invariant-loop decreases-loop
 returns c =
     let a = c.before.before.before.before.before.args in
     let l = c.before.loop in
-    l.invariant.1 ∙ filled-all (slot_of a.g.settings a.seeds.now) a.hashes.now a.slots.now c.before.before.before.before.before.requires.1.1 l.i (omega arith)
+    l.invariant.1 ∙ filled_all (slot_of a.g.settings a.seeds.now) a.hashes.now a.slots.now c.before.before.before.before.before.requires.1.1 l.i (omega arith)
 
 pub fill-in-spec : {M : Type 1} → statement M
 fill-in-spec =

@@ -3,10 +3,10 @@ use mathlib.Core.Path.{sym, subst, ap, ◌∙◌}
 use mathlib.Core.List.{List, map}
 use Prim.Native.Nat.{ℕ}
 use borrow.Author.Rules.{rules}
-use Rattle.rules.proofs.Tests.{of-true}
+use Rattle.rules.proofs.Tests.{of_true}
 use Rattle.geometry.specs.declared.shape.Geometry.{Geometry}
 use Rattle.geometry.specs.Shape.{Made}
-use Rattle.geometry.proofs.UsualLaws.{usual-told}
+use Rattle.geometry.proofs.UsualLaws.{usual_told}
 use Rattle.exports.specs.Positions.{slot_of}
 use Rattle.exports.proofs.asking.fill_slots.Statement.{statement}
 use Rattle.exports.proofs.asking.fill_slots.Tie as tie
@@ -15,7 +15,7 @@ usual-requires : tie.Need-usual-requires
 usual-requires c κs = search rules
 
 literal-requires : tie.Need-literal-requires
-literal-requires c κs = (c.before.before.before.before.before.requires.0, usual-told c.before.before.before.before.before.args.g (of-true (sym c.before.usual.ensures ∙ c.if1.true)))
+literal-requires c κs = (c.before.before.before.before.before.requires.0, usual_told c.before.before.before.before.before.args.g (of_true (sym c.before.usual.ensures ∙ c.if1.true)))
 
 fill-in-requires : tie.Need-fill-in-requires
 fill-in-requires c κs =

@@ -1,8 +1,8 @@
 -- Each arm tells what `lookup` says of its variant, and `lookup` says the answer.
 use borrow.Author.Rules.{rules}
 use mathlib.Core.Path.{refl}
-use Rattle.rules.specs.Answers.{saidLooked}
-use Rattle.exports.specs.Told.{numberTold, slotTold, slotOr}
+use Rattle.rules.specs.Answers.{said_looked}
+use Rattle.exports.specs.Told.{number_told, slot_told, slot_or}
 use Rattle.exports.proofs.asking.phastr_lookup.Statement.{statement}
 use Rattle.exports.proofs.asking.phastr_lookup.Tie as tie
 
@@ -19,15 +19,15 @@ enum-known-number : tie.Need-enum-known-number
 enum-known-number c = search rules
 
 returns : tie.Need-returns
-unfolding saidLooked numberTold slotTold slotOr
+unfolding said_looked number_told slot_told slot_or
 returns c = rw (← c.before.before.lookup.ensures, c.enum_told.given.1) (refl, refl)
 
 returns-2 : tie.Need-returns-2
-unfolding saidLooked numberTold slotTold slotOr
+unfolding said_looked number_told slot_told slot_or
 returns-2 c = rw (← c.before.before.before.lookup.ensures, c.before.at.given.1) (refl, refl)
 
 returns-3 : tie.Need-returns-3
-unfolding saidLooked numberTold slotTold
+unfolding said_looked number_told slot_told
 returns-3 c = rw (← c.before.before.before.lookup.ensures, c.before.number.given.1) (refl, refl)
 
 pub phastr-lookup-spec : {M : Type 1} → statement M

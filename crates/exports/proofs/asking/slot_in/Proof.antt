@@ -1,8 +1,8 @@
 -- The slot is what `lookup_in` says, which is no refusal.
 use borrow.Author.Rules.{rules}
 use mathlib.Core.Path.{sym, ap, ◌∙◌}
-use Rattle.rules.specs.Answers.{Said, saidLooked}
-use Rattle.exports.specs.Told.{slotTold, slotOr}
+use Rattle.rules.specs.Answers.{Said, said_looked}
+use Rattle.exports.specs.Told.{slot_told, slot_or}
 use Rattle.exports.specs.Positions.{slot_of}
 use Rattle.exports.proofs.asking.slot_in.Statement.{statement}
 use Rattle.exports.proofs.asking.slot_in.Tie as tie
@@ -20,16 +20,16 @@ enum-known-number : tie.Need-enum-known-number
 enum-known-number c = search rules
 
 returns : tie.Need-returns
-unfolding saidLooked slotTold slot_of slotOr
-returns c = ap (λ (said : Said). slotTold said 0) (sym (ap saidLooked c.before.at.given.1) ∙ c.before.before.before.lookup-in.ensures)
+unfolding said_looked slot_told slot_of slot_or
+returns c = ap (λ (said : Said). slot_told said 0) (sym (ap said_looked c.before.at.given.1) ∙ c.before.before.before.lookup-in.ensures)
 
 returns-2 : tie.Need-returns-2
-unfolding saidLooked slotTold slot_of slotOr
-returns-2 c = ap (λ (said : Said). slotTold said 0) (sym (ap saidLooked c.enum_told.given.1) ∙ c.before.before.lookup-in.ensures)
+unfolding said_looked slot_told slot_of slot_or
+returns-2 c = ap (λ (said : Said). slot_told said 0) (sym (ap said_looked c.enum_told.given.1) ∙ c.before.before.lookup-in.ensures)
 
 returns-3 : tie.Need-returns-3
-unfolding saidLooked
-returns-3 c = let never = sym (ap saidLooked c.before.number.given.1) ∙ c.before.before.before.lookup-in.ensures in cc
+unfolding said_looked
+returns-3 c = let never = sym (ap said_looked c.before.number.given.1) ∙ c.before.before.before.lookup-in.ensures in cc
 
 pub slot-in-spec : {M : Type 1} → statement M
 slot-in-spec =

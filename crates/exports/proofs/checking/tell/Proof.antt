@@ -2,8 +2,8 @@
 use borrow.Author.Rules.{rules}
 use mathlib.Core.Path.{refl}
 use Rattle.rules.specs.Answers.{named_by}
-use Rattle.level_check.specs.Check.{saidMatched}
-use Rattle.exports.specs.Told.{numberTold, bucketTold}
+use Rattle.level_check.specs.Check.{said_matched}
+use Rattle.exports.specs.Told.{number_told, bucket_told}
 use Rattle.exports.proofs.checking.tell.Statement.{statement}
 use Rattle.exports.proofs.checking.tell.Tie as tie
 
@@ -20,15 +20,15 @@ enum-told-2 : tie.Need-enum-told-2
 enum-told-2 c = search rules
 
 returns : tie.Need-returns
-unfolding saidMatched numberTold bucketTold
+unfolding said_matched number_told bucket_told
 returns c = rw c.enum_told.given.1 (refl, refl)
 
 returns-2 : tie.Need-returns-2
-unfolding saidMatched named_by numberTold bucketTold
+unfolding said_matched named_by number_told bucket_told
 returns-2 c = rw (c.before.before.before.before.matched.given.1, c.before.named.given.1) (refl, refl)
 
 returns-3 : tie.Need-returns-3
-unfolding saidMatched named_by numberTold bucketTold
+unfolding said_matched named_by number_told bucket_told
 returns-3 c = rw (c.before.before.before.matched.given.1, c.enum-told2.given.1) (refl, refl)
 
 pub tell-spec : {M : Type 1} → statement M

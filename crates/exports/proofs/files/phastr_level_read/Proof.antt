@@ -2,9 +2,9 @@
 use mathlib.Core.Path.{sym, ap, ◌∙◌}
 use lib.ListN.{replicate}
 use Rattle.rules.specs.Answers.{Said}
-use Rattle.level_file.specs.Format.{settingsNumbers}
-use Rattle.level_file.specs.Answer.{saidRead, readValues}
-use Rattle.exports.specs.Told.{numberTold, valuesTold}
+use Rattle.level_file.specs.Format.{settings_numbers}
+use Rattle.level_file.specs.Answer.{said_read, read_values}
+use Rattle.exports.specs.Told.{number_told, values_told}
 use borrow.Author.Rules.{rules}
 use Rattle.exports.proofs.files.phastr_level_read.Statement.{statement}
 use Rattle.exports.proofs.files.phastr_level_read.Tie as tie
@@ -25,10 +25,10 @@ same-length-2 : tie.Need-same-length-2
 same-length-2 c = search rules
 
 returns : tie.Need-returns
-unfolding saidRead readValues settingsNumbers numberTold valuesTold
+unfolding said_read read_values settings_numbers number_told values_told
 returns c =
-    let said = sym (ap saidRead c.before.before.s.given.1) ∙ c.before.before.before.before.before.before.before.before.read-file.ensures.0 in
-    (ap numberTold said, (c.before.before.before.before.before.before.before.before.read-file.ensures.1.0, (c.before.before.before.before.before.before.before.before.read-file.ensures.1.1, ap (λ (x : Said). valuesTold x (replicate 6 0)) said)))
+    let said = sym (ap said_read c.before.before.s.given.1) ∙ c.before.before.before.before.before.before.before.before.read-file.ensures.0 in
+    (ap number_told said, (c.before.before.before.before.before.before.before.before.read-file.ensures.1.0, (c.before.before.before.before.before.before.before.before.read-file.ensures.1.1, ap (λ (x : Said). values_told x (replicate 6 0)) said)))
 
 same-length-3 : tie.Need-same-length-3
 same-length-3 c = search rules
@@ -37,10 +37,10 @@ same-length-4 : tie.Need-same-length-4
 same-length-4 c = search rules
 
 returns-2 : tie.Need-returns-2
-unfolding saidRead readValues settingsNumbers numberTold valuesTold
+unfolding said_read read_values settings_numbers number_told values_told
 returns-2 c =
-    let said = sym (ap saidRead c.before.before.number.given.1) ∙ c.before.before.before.before.before.before.before.before.read-file.ensures.0 in
-    (ap numberTold said, (c.before.before.before.before.before.before.before.before.read-file.ensures.1.0, (c.before.before.before.before.before.before.before.before.read-file.ensures.1.1, ap (λ (x : Said). valuesTold x (replicate 6 0)) said)))
+    let said = sym (ap said_read c.before.before.number.given.1) ∙ c.before.before.before.before.before.before.before.before.read-file.ensures.0 in
+    (ap number_told said, (c.before.before.before.before.before.before.before.before.read-file.ensures.1.0, (c.before.before.before.before.before.before.before.before.read-file.ensures.1.1, ap (λ (x : Said). values_told x (replicate 6 0)) said)))
 
 pub phastr-level-read-spec : {M : Type 1} → statement M
 phastr-level-read-spec =

@@ -1,8 +1,8 @@
 -- Each arm tells what `write_file` says of its variant; a refusal leaves the length 0.
 use mathlib.Core.Path.{sym, ap, ◌∙◌}
 use Rattle.rules.specs.Answers.{Said}
-use Rattle.level_file.specs.Writing.{saidWritten}
-use Rattle.exports.specs.Told.{numberTold, valueTold}
+use Rattle.level_file.specs.Writing.{said_written}
+use Rattle.exports.specs.Told.{number_told, value_told}
 use borrow.Author.Rules.{rules}
 use Rattle.exports.proofs.files.phastr_level_write.Statement.{statement}
 use Rattle.exports.proofs.files.phastr_level_write.Tie as tie
@@ -20,19 +20,19 @@ same_length : tie.Need-same-length
 same_length c = search rules
 
 returns : tie.Need-returns
-unfolding saidWritten numberTold valueTold
+unfolding said_written number_told value_told
 returns c =
-    let said = sym (ap saidWritten c.before.n.given.1) ∙ c.before.before.before.before.before.write-file.ensures.0 in
-    (ap numberTold said, (c.before.before.before.before.before.write-file.ensures.1, ap (λ (x : Said). valueTold x 0) said))
+    let said = sym (ap said_written c.before.n.given.1) ∙ c.before.before.before.before.before.write_file.ensures.0 in
+    (ap number_told said, (c.before.before.before.before.before.write_file.ensures.1, ap (λ (x : Said). value_told x 0) said))
 
 same-length-2 : tie.Need-same-length-2
 same-length-2 c = search rules
 
 returns-2 : tie.Need-returns-2
-unfolding saidWritten numberTold valueTold
+unfolding said_written number_told value_told
 returns-2 c =
-    let said = sym (ap saidWritten c.before.number.given.1) ∙ c.before.before.before.before.before.write-file.ensures.0 in
-    (ap numberTold said, (c.before.before.before.before.before.write-file.ensures.1, ap (λ (x : Said). valueTold x 0) said))
+    let said = sym (ap said_written c.before.number.given.1) ∙ c.before.before.before.before.before.write_file.ensures.0 in
+    (ap number_told said, (c.before.before.before.before.before.write_file.ensures.1, ap (λ (x : Said). value_told x 0) said))
 
 pub phastr-level-write-spec : {M : Type 1} → statement M
 phastr-level-write-spec =

@@ -1,8 +1,8 @@
 -- Each arm tells what `bucket_count` says of its variant, and `bucket_count` says the answer.
 use borrow.Author.Rules.{rules}
 use mathlib.Core.Path.{refl}
-use Rattle.rules.specs.Answers.{saidCounted}
-use Rattle.exports.specs.Told.{numberTold, valueTold}
+use Rattle.rules.specs.Answers.{said_counted}
+use Rattle.exports.specs.Told.{number_told, value_told}
 use Rattle.exports.proofs.sizing.phastr_bucket_count.Statement.{statement}
 use Rattle.exports.proofs.sizing.phastr_bucket_count.Tie as tie
 
@@ -16,11 +16,11 @@ enum-known-number : tie.Need-enum-known-number
 enum-known-number c = search rules
 
 returns : tie.Need-returns
-unfolding saidCounted numberTold valueTold
+unfolding said_counted number_told value_told
 returns c = rw (← c.before.before.before.bucket-count.ensures, c.before.n.given.1) (refl, refl)
 
 returns-2 : tie.Need-returns-2
-unfolding saidCounted numberTold valueTold
+unfolding said_counted number_told value_told
 returns-2 c = rw (← c.before.before.before.bucket-count.ensures, c.before.number.given.1) (refl, refl)
 
 pub phastr-bucket-count-spec : {M : Type 1} → statement M

@@ -1,8 +1,8 @@
 -- Each arm tells what `holes` says of its variant, and `holes` says the answer and leaves the buffer.
 use borrow.Author.Rules.{rules}
 use mathlib.Core.Path.{sym, ap, ◌∙◌}
-use Rattle.rules.specs.Answers.{Said, saidListed}
-use Rattle.exports.specs.Told.{numberTold, valueTold}
+use Rattle.rules.specs.Answers.{Said, said_listed}
+use Rattle.exports.specs.Told.{number_told, value_told}
 use Rattle.exports.proofs.sweeping.phastr_holes.Statement.{statement}
 use Rattle.exports.proofs.sweeping.phastr_holes.Tie as tie
 
@@ -19,19 +19,19 @@ same_length : tie.Need-same-length
 same_length c = search rules
 
 returns : tie.Need-returns
-unfolding saidListed numberTold valueTold
+unfolding said_listed number_told value_told
 returns c =
-    let said = sym (ap saidListed c.before.n.given.1) ∙ c.before.before.before.before.before.holes.ensures.0 in
-    (ap numberTold said, (c.before.before.before.before.before.holes.ensures.1, ap (λ (x : Said). valueTold x c.before.before.before.before.before.before.before.before.before.args.count.now) said))
+    let said = sym (ap said_listed c.before.n.given.1) ∙ c.before.before.before.before.before.holes.ensures.0 in
+    (ap number_told said, (c.before.before.before.before.before.holes.ensures.1, ap (λ (x : Said). value_told x c.before.before.before.before.before.before.before.before.before.args.count.now) said))
 
 same-length-2 : tie.Need-same-length-2
 same-length-2 c = search rules
 
 returns-2 : tie.Need-returns-2
-unfolding saidListed numberTold valueTold
+unfolding said_listed number_told value_told
 returns-2 c =
-    let said = sym (ap saidListed c.before.number.given.1) ∙ c.before.before.before.before.before.holes.ensures.0 in
-    (ap numberTold said, (c.before.before.before.before.before.holes.ensures.1, ap (λ (x : Said). valueTold x c.before.before.before.before.before.before.before.before.before.args.count.now) said))
+    let said = sym (ap said_listed c.before.number.given.1) ∙ c.before.before.before.before.before.holes.ensures.0 in
+    (ap number_told said, (c.before.before.before.before.before.holes.ensures.1, ap (λ (x : Said). value_told x c.before.before.before.before.before.before.before.before.before.args.count.now) said))
 
 pub phastr-holes-spec : {M : Type 1} → statement M
 phastr-holes-spec =

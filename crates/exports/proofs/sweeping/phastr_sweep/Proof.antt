@@ -1,6 +1,6 @@
 -- The sweep's contract says what is left in the buffers, and what `tell` is told.
 use borrow.Author.Rules.{rules}
-use Rattle.rules.specs.Answers.{saidSweep}
+use Rattle.rules.specs.Answers.{said_sweep}
 use Rattle.exports.proofs.sweeping.phastr_sweep.Statement.{statement}
 use Rattle.exports.proofs.sweeping.phastr_sweep.Tie as tie
 
@@ -20,7 +20,7 @@ same-length-3 : tie.Need-same-length-3
 same-length-3 c = search rules
 
 returns : tie.Need-returns
-unfolding saidSweep
+unfolding said_sweep
 returns c =
     let s = c.before.before.before.before.before.before.before.before.before.sweep.ensures in
     let t = rw s.0 at c.tell.ensures in

@@ -1,8 +1,8 @@
 -- Each arm tells what is said of its variant.
 use borrow.Author.Rules.{rules}
 use mathlib.Core.Path.{refl}
-use Rattle.rules.specs.Answers.{saidOutcome, countValues, named_by}
-use Rattle.exports.specs.Told.{numberTold, valuesTold, bucketTold}
+use Rattle.rules.specs.Answers.{said_outcome, count_values, named_by}
+use Rattle.exports.specs.Told.{number_told, values_told, bucket_told}
 use Rattle.exports.proofs.sweeping.tell.Statement.{statement}
 use Rattle.exports.proofs.sweeping.tell.Tie as tie
 
@@ -19,15 +19,15 @@ enum_told : tie.Need-enum-told
 enum_told c = search rules
 
 returns : tie.Need-returns
-unfolding saidOutcome countValues numberTold valuesTold bucketTold
+unfolding said_outcome count_values number_told values_told bucket_told
 returns c = rw c.before.before.outcome.given.1 (refl, (refl, refl))
 
 returns-2 : tie.Need-returns-2
-unfolding saidOutcome named_by numberTold valuesTold bucketTold
+unfolding said_outcome named_by number_told values_told bucket_told
 returns-2 c = rw (c.before.before.before.before.outcome2.given.1, c.before.named.given.1) (refl, (refl, refl))
 
 returns-3 : tie.Need-returns-3
-unfolding saidOutcome named_by numberTold valuesTold bucketTold
+unfolding said_outcome named_by number_told values_told bucket_told
 returns-3 c = rw (c.before.before.before.outcome2.given.1, c.enum_told.given.1) (refl, (refl, refl))
 
 pub tell-spec : {M : Type 1} → statement M

@@ -1,4 +1,4 @@
-use Rattle.rules.specs.BucketCount.{oddUp}
+use Rattle.rules.specs.BucketCount.{odd_up}
 use Rattle.std.proofs.Common.{◌≡◌, sym, ap, arith, rules}
 use native.Mathlib.Nat.{max-eq_right}
 use Rattle.geometry.proofs.count.odd_up.Statement.{statement}
@@ -16,13 +16,13 @@ add-result c = search rules
 
 -- src/count.rt:29:1
 returns : tie.Need-returns
-unfolding oddUp
+unfolding odd_up
 returns c = rw c.if1.true
 
 -- src/count.rt:29:1
 returns-2 : tie.Need-returns-2
-unfolding oddUp
-returns-2 c = sym (ap oddUp (max-eq_right {n = 1} {m = c.before.args.n} (omega arith)))
+unfolding odd_up
+returns-2 c = sym (ap odd_up (max-eq_right {n = 1} {m = c.before.args.n} (omega arith)))
 
 pub odd-up-spec : {M : Type 1} → statement M
 odd-up-spec = tie.close (tie.spec sub-result add-result returns returns-2)

@@ -1,4 +1,4 @@
-use Rattle.geometry.proofs.Halving.{asked, part_small, rounds-down, rounds-up}
+use Rattle.geometry.proofs.Halving.{asked, part_small, rounds_down, rounds_up}
 use lib.Ieee.{in_float}
 use Rattle.std.proofs.Common.{◌≤◌, le_trans, arith, lit≤, le→leb}
 use Rattle.geometry.proofs.count.rounded.Statement.{statement}
@@ -27,13 +27,13 @@ add-result c = omega (arith, small c.before.before)
 returns : tie.Need-returns
 returns c =
     let b = c.before.before in
-    (rounds-down b.before.args.q b.truncating-f64-to-u64.result b.before.requires b.truncating-f64-to-u64.ensures c.if1.true, omega (arith, small b))
+    (rounds_down b.before.args.q b.truncating-f64-to-u64.result b.before.requires b.truncating-f64-to-u64.ensures c.if1.true, omega (arith, small b))
 
 -- src/count.rt:20:1
 returns-2 : tie.Need-returns-2
 returns-2 c =
     let b = c.before.before in
-    (rounds-up b.before.args.q b.truncating-f64-to-u64.result b.before.requires b.truncating-f64-to-u64.ensures c.if1.false, omega (arith, small b))
+    (rounds_up b.before.args.q b.truncating-f64-to-u64.result b.before.requires b.truncating-f64-to-u64.ensures c.if1.false, omega (arith, small b))
 
 pub rounded-spec : {M : Type 1} → statement M
 rounded-spec =

@@ -1,4 +1,4 @@
-use Rattle.rules.specs.BucketCount.{sizeCap}
+use Rattle.rules.specs.BucketCount.{size_cap}
 use Rattle.std.proofs.Common.{◌≡◌, ℕ, ◌/◌, min, ap, ◌∙◌, arith, rules}
 use Rattle.geometry.proofs.count.size_cap.Statement.{statement}
 use Rattle.geometry.proofs.count.size_cap.Tie as tie
@@ -17,7 +17,7 @@ smaller-requires c κs = search rules
 
 -- src/count.rt:12:1
 returns : tie.Need-returns
-unfolding sizeCap
+unfolding size_cap
 returns c = (c.smaller.ensures ∙ ap (λ (n : ℕ). min (n / 8) 64) c.before.power-of-two.ensures.0, omega arith)
 
 pub size-cap-spec : {M : Type 1} → statement M

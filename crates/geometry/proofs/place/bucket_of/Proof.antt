@@ -12,7 +12,7 @@ mul-hi-requires c κs = search rules
 
 -- src/place.rt:11:1
 returns : tie.Need-returns
-unfolding G.bucketOf
+unfolding G.bucket_of
 returns c = (c.mul-hi.ensures.0, omega (arith, c.mul-hi.ensures.2, c.before.before.requires.usable.odd))
 
 pub bucket-of-spec : {M : Type 1} → statement M

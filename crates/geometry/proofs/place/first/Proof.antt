@@ -1,4 +1,4 @@
-use Rattle.geometry.proofs.Places.{first_halves, first-high}
+use Rattle.geometry.proofs.Places.{first_halves, first_high}
 use Rattle.geometry.proofs.Sizes.{sized}
 use Rattle.rules.specs.Geometry as G
 use Rattle.std.proofs.Common.{◌≡◌, ℕ, ◌+◌, ◌*◌, ◌/◌, ◌^◌, ◌≤◌, sym, ap, ◌∙◌, ap₂, arith, w64, Fits, rules}
@@ -14,23 +14,23 @@ unfolding G.first
 halves c =
     let a = c.args in
     let z = sized a.g c.requires.0 in
-    ap₂ (λ (x y : ℕ). a.b * x + a.b * y / 2 ^ 64) z.hi-is z.lo-is ∙ first_halves a.b (G.quotient a.g.settings)
+    ap₂ (λ (x y : ℕ). a.b * x + a.b * y / 2 ^ 64) z.hi_is z.lo_is ∙ first_halves a.b (G.quotient a.g.settings)
 
-left-fits : (x y : ℕ) → x + y ≤ 134217728 → Fits w64 x
-left-fits x y h = omega arith
+left_fits : (x y : ℕ) → x + y ≤ 134217728 → Fits w64 x
+left_fits x y h = omega arith
 
 upto : (c : tie.Start) → c.args.b * c.args.g.q_hi + c.args.b * c.args.g.q_lo / 2 ^ 64 ≤ c.args.g.slices
 upto c =
     let a = c.args in
     let z = sized a.g c.requires.0 in
-    omega (arith, halves c, first-high a.g.settings a.b c.requires.1, z.ns-is)
+    omega (arith, halves c, first_high a.g.settings a.b c.requires.1, z.ns_is)
 
 small : (c : tie.Start) → c.args.b * c.args.g.q_hi + c.args.b * c.args.g.q_lo / 2 ^ 64 ≤ 134217728
-small c = omega (arith, upto c, (sized c.args.g c.requires.0).ns-high)
+small c = omega (arith, upto c, (sized c.args.g c.requires.0).ns_high)
 
 -- src/place.rt:41:5
 mul-result : tie.Need-overflow-mul-result
-mul-result c = left-fits (c.before.args.b * c.before.args.g.q_hi) (c.before.args.b * c.before.args.g.q_lo / 2 ^ 64) (small c.before)
+mul-result c = left_fits (c.before.args.b * c.before.args.g.q_hi) (c.before.args.b * c.before.args.g.q_lo / 2 ^ 64) (small c.before)
 
 -- src/place.rt:41:18
 mul-hi-requires : tie.Need-mul-hi-requires

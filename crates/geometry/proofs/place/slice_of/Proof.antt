@@ -13,11 +13,11 @@ mul-hi-requires c κs = search rules
 
 -- src/place.rt:20:1
 returns : tie.Need-returns
-unfolding G.sliceOf
+unfolding G.slice_of
 returns c =
     let s = c.before in
     let z = sized s.args.g s.requires in
-    (c.mul-hi.ensures.0 ∙ ap (λ (n : ℕ). s.args.h * n / 2 ^ 64) z.ns-is, omega (arith, c.mul-hi.ensures.2, z.ns-low))
+    (c.mul-hi.ensures.0 ∙ ap (λ (n : ℕ). s.args.h * n / 2 ^ 64) z.ns_is, omega (arith, c.mul-hi.ensures.2, z.ns_low))
 
 pub slice-of-spec : {M : Type 1} → statement M
 slice-of-spec = tie.close (tie.spec mul-hi-requires returns)

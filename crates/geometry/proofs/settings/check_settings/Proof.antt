@@ -1,4 +1,4 @@
-use Rattle.rules.specs.Answers.{Said, Answer, Refusal, unless, saidChecked, settingsAnswer}
+use Rattle.rules.specs.Answers.{Said, Answer, Refusal, unless, said_checked, settings_answer}
 use Rattle.std.proofs.Common.{◌≡◌, ℕ, zero, suc, ◌≢◌, [], ◌∷◌, sym, refl, ap, ◌∙◌, rules}
 use Rattle.geometry.proofs.settings.check_settings.Statement.{statement}
 use Rattle.geometry.proofs.settings.check_settings.Tie as tie
@@ -18,12 +18,12 @@ number-to-7-requires c κs = search rules
 
 -- src/settings.rt:112:9
 returns : tie.Need-returns
-unfolding saidChecked settingsAnswer unless
+unfolding said_checked settings_answer unless
 returns c = rw (sym c.before.number-to-7.ensures.0, c.if1.true) refl
 
 -- src/settings.rt:107:1
 returns-2 : tie.Need-returns-2
-unfolding saidChecked settingsAnswer
+unfolding said_checked settings_answer
 returns-2 c = refused c.before.number-to-7.result (Answer []) c.if1.false ∙ ap (λ (n : ℕ). unless n (Answer [])) c.before.number-to-7.ensures.0
 
 pub check-settings-spec : {M : Type 1} → statement M

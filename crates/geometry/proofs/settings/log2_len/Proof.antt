@@ -1,4 +1,4 @@
-use Rattle.rules.proofs.GeometryLaws.{logLen-is}
+use Rattle.rules.proofs.GeometryLaws.{log_len_is}
 use Rattle.std.proofs.Common.{◌≡◌, sym, refl, ap, ◌∙◌, arith, rules}
 use Rattle.geometry.proofs.settings.log2_len.Statement.{statement}
 use Rattle.geometry.proofs.settings.log2_len.Tie as tie
@@ -21,7 +21,7 @@ smaller-requires c κs = search rules
 
 -- src/settings.rt:60:1
 returns : tie.Need-returns
-returns c = (omega (arith, logLen-is c.before.before.before.args.s, c.before.log2-up.ensures.0, c.smaller.ensures), omega (arith, c.smaller.ensures, c.before.before.before.requires.slice-high))
+returns c = (omega (arith, log_len_is c.before.before.before.args.s, c.before.log2-up.ensures.0, c.smaller.ensures), omega (arith, c.smaller.ensures, c.before.before.before.requires.slice_high))
 
 pub log2-len-spec : {M : Type 1} → statement M
 log2-len-spec = tie.close (tie.spec add-log2-up log2-up-requires smaller-requires returns)

@@ -1,6 +1,6 @@
-use Rattle.rules.proofs.CheckLaws.{passes-6, numbered-6}
-use Rattle.rules.proofs.Lines.{first-append-zero, first-append-some}
-use Rattle.rules.specs.Numbers.{first_of, linesTo6, linesTo7, line7}
+use Rattle.rules.proofs.CheckLaws.{passes_6, numbered_6}
+use Rattle.rules.proofs.Lines.{first_append_zero, first_append_some}
+use Rattle.rules.specs.Numbers.{first_of, lines_to6, lines_to7, line7}
 use Rattle.std.proofs.Common.{◌≡◌, [], ◌∷◌, sym, refl, ap, ◌∙◌, arith, rules, le-ltb, lt-ltb}
 use Rattle.geometry.proofs.settings.number_to_7.Statement.{statement}
 use Rattle.geometry.proofs.settings.number_to_7.Tie as tie
@@ -11,12 +11,12 @@ use Rattle.geometry.proofs.settings.per_bucket.Reads as per-bucket-reads
 
 -- none of 1 to 6 applies
 module _ (c : tie.Else1) where
-  none : first_of (linesTo6 c.before.before.args.s) ≡ 0
+  none : first_of (lines_to6 c.before.before.args.s) ≡ 0
   none = sym c.before.number-to-6.ensures.0 ∙ c.if1.false
 
-  rest : first_of (linesTo7 c.before.before.args.s) ≡ first_of (line7 c.before.before.args.s ∷ [])
-  unfolding linesTo7
-  rest = first-append-zero (linesTo6 c.before.before.args.s) (line7 c.before.before.args.s ∷ []) (numbered-6 c.before.before.args.s) none
+  rest : first_of (lines_to7 c.before.before.args.s) ≡ first_of (line7 c.before.before.args.s ∷ [])
+  unfolding lines_to7
+  rest = first_append_zero (lines_to6 c.before.before.args.s) (line7 c.before.before.args.s ∷ []) (numbered_6 c.before.before.args.s) none
 
 -- src/settings.rt:96:9
 number-to-6-requires : tie.Need-number-to-6-requires
@@ -24,15 +24,15 @@ number-to-6-requires c κs = search rules
 
 -- src/settings.rt:98:9
 returns : tie.Need-returns
-unfolding linesTo7
+unfolding lines_to7
 returns c =
     let s = c.before.before.args.s in
     let e = c.before.number-to-6.ensures.0 in
-    (e ∙ sym (first-append-some (linesTo6 s) (line7 s ∷ []) (λ z. c.if1.true (e ∙ z))), omega (arith, c.before.number-to-6.ensures.1))
+    (e ∙ sym (first_append_some (lines_to6 s) (line7 s ∷ []) (λ z. c.if1.true (e ∙ z))), omega (arith, c.before.number-to-6.ensures.1))
 
 -- src/settings.rt:100:15
 per-bucket-requires : tie.Need-per-bucket-requires
-per-bucket-requires c κs = passes-6 c.before.before.args.s (none c)
+per-bucket-requires c κs = passes_6 c.before.before.args.s (none c)
 
 -- src/settings.rt:101:9
 returns-2 : tie.Need-returns-2

@@ -1,4 +1,4 @@
-use Rattle.rules.specs.Geometry.{perBucket}
+use Rattle.rules.specs.Geometry.{per_bucket}
 use Rattle.std.proofs.Common.{◌≡◌, ℕ, ◌+◌, ◌-◌, ◌/◌, sym, refl, ap, ◌∙◌, lt_of_le_of_lt, div-le_self, arith, rules}
 use Rattle.geometry.proofs.settings.per_bucket.Statement.{statement}
 use Rattle.geometry.proofs.settings.per_bucket.Tie as tie
@@ -24,10 +24,10 @@ div-result c = search rules
 
 -- src/settings.rt:84:1
 returns : tie.Need-returns
-unfolding perBucket
+unfolding per_bucket
 returns c =
     let b = c.before.args.s.buckets in
-    (ap (λ (n : ℕ). (n + (b - 1)) / b) c.slice-count.ensures.0, lt_of_le_of_lt (div-le_self (c.slice-count.result + (b - 1)) b) (omega (arith, c.slice-count.ensures.2, c.before.requires.m-high, c.before.requires.buckets-high)))
+    (ap (λ (n : ℕ). (n + (b - 1)) / b) c.slice-count.ensures.0, lt_of_le_of_lt (div-le_self (c.slice-count.result + (b - 1)) b) (omega (arith, c.slice-count.ensures.2, c.before.requires.m_high, c.before.requires.buckets_high)))
 
 pub per-bucket-spec : {M : Type 1} → statement M
 per-bucket-spec =

@@ -1,4 +1,4 @@
-use Rattle.rules.proofs.GeometryLaws.{len-pow, len-le-m}
+use Rattle.rules.proofs.GeometryLaws.{len_pow, len_le_m}
 use Rattle.std.proofs.Common.{◌≡◌, ℕ, ◌^◌, sym, refl, ap, ◌∙◌, arith, rules}
 use Rattle.geometry.proofs.settings.slice_len.Statement.{statement}
 use Rattle.geometry.proofs.settings.slice_len.Tie as tie
@@ -18,8 +18,8 @@ power-of-two-requires c κs = search rules
 -- src/settings.rt:68:1
 returns : tie.Need-returns
 returns c =
-    let e = c.power-of-two.ensures.0 ∙ ap (λ (k : ℕ). 2 ^ k) c.before.log2-len.ensures.0 ∙ sym (len-pow c.before.before.args.s) in
-    (e, c.power-of-two.ensures.1, omega (arith, e, len-le-m c.before.before.args.s c.before.before.requires.m-low), c.power-of-two.ensures.2)
+    let e = c.power-of-two.ensures.0 ∙ ap (λ (k : ℕ). 2 ^ k) c.before.log2-len.ensures.0 ∙ sym (len_pow c.before.before.args.s) in
+    (e, c.power-of-two.ensures.1, omega (arith, e, len_le_m c.before.before.args.s c.before.before.requires.m_low), c.power-of-two.ensures.2)
 
 pub slice-len-spec : {M : Type 1} → statement M
 slice-len-spec = tie.close (tie.spec log2-len-requires power-of-two-requires returns)

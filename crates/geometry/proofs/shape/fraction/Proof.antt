@@ -1,4 +1,4 @@
-use Rattle.integers.specs.Division.{part-lt, two_digits}
+use Rattle.integers.specs.Division.{part_lt, two_digits}
 use Rattle.std.proofs.Common.{◌≡◌, ℕ, ◌+◌, ◌*◌, ◌/◌, ◌%◌, ◌^◌, ◌<◌, ◌≤◌, ap, ◌∙◌, mod-lt, arith, pow_pos, rules}
 use Rattle.geometry.proofs.shape.fraction.Statement.{statement}
 use Rattle.geometry.proofs.shape.fraction.Tie as tie
@@ -10,10 +10,10 @@ left : (c : tie.Start) → c.args.r * 2 ^ 32 % c.args.b < c.args.b
 left c = mod-lt (c.args.r * 2 ^ 32) (omega arith)
 
 upper : (c : tie.Start) → c.args.r * 2 ^ 32 / c.args.b < 2 ^ 32
-upper c = part-lt c.args.r (2 ^ 32) c.args.b c.requires.0 (pow_pos 32)
+upper c = part_lt c.args.r (2 ^ 32) c.args.b c.requires.0 (pow_pos 32)
 
 lower : (c : tie.Start) → c.args.r * 2 ^ 32 % c.args.b * 2 ^ 32 / c.args.b < 2 ^ 32
-lower c = part-lt (c.args.r * 2 ^ 32 % c.args.b) (2 ^ 32) c.args.b (left c) (pow_pos 32)
+lower c = part_lt (c.args.r * 2 ^ 32 % c.args.b) (2 ^ 32) c.args.b (left c) (pow_pos 32)
 
 -- src/shape.rt:52:13
 mul-x : tie.Need-overflow-mul-x

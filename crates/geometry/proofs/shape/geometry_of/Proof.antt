@@ -56,7 +56,7 @@ rem-fraction c = search rules
 
 -- src/shape.rt:90:9
 fraction-requires : tie.Need-fraction-requires
-fraction-requires c κs = (mod-lt c.before.before.before.before.before.before.slice-count.result (omega (arith, c.before.before.before.before.before.before.before.before.before.requires.odd)), omega (arith, c.before.before.before.before.before.before.before.before.before.requires.buckets-high))
+fraction-requires c κs = (mod-lt c.before.before.before.before.before.before.slice-count.result (omega (arith, c.before.before.before.before.before.before.before.before.before.requires.odd)), omega (arith, c.before.before.before.before.before.before.before.before.before.requires.buckets_high))
 
 -- src/shape.rt:91:9
 slots-of-requires : tie.Need-slots-of-requires

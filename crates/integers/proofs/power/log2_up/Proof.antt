@@ -4,8 +4,8 @@ use Prim.Native.Nat.{ℕ, ◌-◌}
 use native.Mathlib.Omega.{arith}
 use lib.Count.{count_leading_zeros, leading_le}
 use borrow.Author.Rules.{rules}
-use Rattle.integers.specs.PowerLaws.{logUp-is, log-of-zeros}
-use Rattle.integers.specs.Power.{logUp}
+use Rattle.integers.specs.PowerLaws.{log_up_is, log_of_zeros}
+use Rattle.integers.specs.Power.{log_up}
 use Rattle.integers.proofs.power.log2_up.Statement.{statement}
 use Rattle.integers.proofs.power.log2_up.Tie as tie
 
@@ -21,8 +21,8 @@ cast-result c = search rules
 returns : tie.Need-returns
 returns c =
     let x : ℕ = c.before.args.x in
-    let is : 64 - count_leading_zeros 64 (x - 1) ≡ logUp x = logUp-is x (64 - count_leading_zeros 64 (x - 1)) (log-of-zeros x (omega arith)) in
-    (subst (λ (d : ℕ). 64 - count_leading_zeros 64 d ≡ logUp x) (sym c.less.ensures) is, omega arith)
+    let is : 64 - count_leading_zeros 64 (x - 1) ≡ log_up x = log_up_is x (64 - count_leading_zeros 64 (x - 1)) (log_of_zeros x (omega arith)) in
+    (subst (λ (d : ℕ). 64 - count_leading_zeros 64 d ≡ log_up x) (sym c.less.ensures) is, omega arith)
 
 pub log2-up-spec : {M : Type 1} → statement M
 log2-up-spec = tie.close (tie.spec less-requires sub-result cast-result returns)

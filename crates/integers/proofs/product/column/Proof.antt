@@ -2,12 +2,12 @@
 use mathlib.Core.Path.{refl}
 use Prim.Native.Nat.{◌*◌, ◌+◌, ◌≤◌, ◌^◌, ◌-◌}
 use native.Mathlib.Omega.{arith}
-use Rattle.integers.proofs.Columns.{column-le}
+use Rattle.integers.proofs.Columns.{column_le}
 use Rattle.integers.proofs.product.column.Statement.{statement}
 use Rattle.integers.proofs.product.column.Tie as tie
 
 within : (c : tie.Start) → c.args.x * c.args.y + c.args.carry ≤ 2 ^ 64 - 2 ^ 32
-within c = column-le 4294967295 c.args.x c.args.y c.args.carry (omega arith) (omega arith) (omega arith)
+within c = column_le 4294967295 c.args.x c.args.y c.args.carry (omega arith) (omega arith) (omega arith)
 
 mul-result : tie.Need-overflow-mul-result
 mul-result c = omega (arith, within c)

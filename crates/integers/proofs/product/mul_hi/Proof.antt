@@ -4,7 +4,7 @@ use Prim.Native.Nat.{ℕ, ◌*◌, ◌/◌, ◌^◌, ◌≤◌, ◌-◌}
 use native.Mathlib.Omega.{arith}
 use native.Mathlib.Nat.{mul_comm}
 use borrow.Author.Rules.{rules}
-use Rattle.integers.specs.Division.{part-le}
+use Rattle.integers.specs.Division.{part_le}
 use Rattle.integers.proofs.product.mul_hi.Statement.{statement}
 use Rattle.integers.proofs.product.mul_hi.Tie as tie
 
@@ -16,8 +16,8 @@ returns c =
     let a : ℕ = c.before.args.a in
     let b : ℕ = c.before.args.b in
     let e = c.product.ensures.0 in
-    let left : b * a / 2 ^ 64 ≤ a - 1 = part-le b a (2 ^ 64) (omega arith) in
-    (e, omega (arith, subst (λ (x : ℕ). x / 2 ^ 64 ≤ a - 1) (mul_comm b a) left), omega (arith, part-le a b (2 ^ 64) (omega arith)))
+    let left : b * a / 2 ^ 64 ≤ a - 1 = part_le b a (2 ^ 64) (omega arith) in
+    (e, omega (arith, subst (λ (x : ℕ). x / 2 ^ 64 ≤ a - 1) (mul_comm b a) left), omega (arith, part_le a b (2 ^ 64) (omega arith)))
 
 pub mul-hi-spec : {M : Type 1} → statement M
 mul-hi-spec = tie.close (tie.spec product-requires returns)

@@ -5,7 +5,7 @@ use native.Mathlib.Omega.{arith}
 use lib.Dec.{lit≤}
 use lib.Pow.{shl_exact}
 use borrow.Author.Rules.{rules}
-use Rattle.integers.proofs.Columns.{Ladder, high_is, low-is}
+use Rattle.integers.proofs.Columns.{Ladder, high_is, low_is}
 use Rattle.integers.proofs.product.product.Statement.{statement}
 use Rattle.integers.proofs.product.product.Tie as tie
 
@@ -71,7 +71,7 @@ returns : tie.Need-returns
 returns c =
     let l = ladder c in (
       ap (λ (x : ℕ). x + c.before.before.high-half5.result) c.before.before.before.column4.ensures.0 ∙ high_is l,
-      ap (λ (x : ℕ). x + c.low-half5.result) (shl_exact 32 32 64 c.before.low-half4.ensures.1 (lit≤ tt)) ∙ low-is l,
+      ap (λ (x : ℕ). x + c.low-half5.result) (shl_exact 32 32 64 c.before.low-half4.ensures.1 (lit≤ tt)) ∙ low_is l,
     )
 
 pub product-spec : {M : Type 1} → statement M

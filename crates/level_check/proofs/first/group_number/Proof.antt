@@ -1,5 +1,5 @@
--- The first number of `groupLines`, test after test.
-use Rattle.level_check.proofs.Numbering.{is-9, is-10, is-11, is_none, rises, begun}
+-- The first number of `group_lines`, test after test.
+use Rattle.level_check.proofs.Numbering.{is_9, is_10, is_11, is_none, rises, begun}
 use borrow.Author.Rules.{rules}
 use Rattle.level_check.proofs.first.group_number.Statement.{statement}
 use Rattle.level_check.proofs.first.group_number.Tie as tie
@@ -10,7 +10,7 @@ begins-bad-requires c κs = search rules
 returns : tie.Need-returns
 returns c =
     let a = c.before.before.before.before.before.args in
-    is-9 a.g.settings a.hashes.now a.begins.now c.before.begins-bad.ensures c.if1.true
+    is_9 a.g.settings a.hashes.now a.begins.now c.before.begins-bad.ensures c.if1.true
 
 largest-size-requires : tie.Need-largest-size-requires
 largest-size-requires c κs =
@@ -20,7 +20,7 @@ largest-size-requires c κs =
 returns-2 : tie.Need-returns-2
 returns-2 c =
     let a = c.before.before.before.before.before.before.before.args in
-    is-10 a.g.settings a.hashes.now a.begins.now c.before.before.before.begins-bad.ensures c.before.before.if1.false
+    is_10 a.g.settings a.hashes.now a.begins.now c.before.before.before.begins-bad.ensures c.before.before.if1.false
     c.before.largest_size.ensures.0 c.if2.true
 
 strayed-requires : tie.Need-strayed-requires
@@ -31,7 +31,7 @@ strayed-requires c κs =
 returns-3 : tie.Need-returns-3
 returns-3 c =
     let a = c.before.before.before.before.before.before.before.before.before.args in
-    is-11 a.g.settings a.hashes.now a.begins.now c.before.before.before.before.before.begins-bad.ensures
+    is_11 a.g.settings a.hashes.now a.begins.now c.before.before.before.before.before.begins-bad.ensures
     c.before.before.before.before.if1.false c.before.before.before.largest_size.ensures.0 c.before.before.if2.false
     c.before.strayed.ensures c.if3.true
 

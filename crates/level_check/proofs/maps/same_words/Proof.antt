@@ -1,5 +1,5 @@
 -- Two lists are alike exactly where their first k words are and what is left is.
-use Rattle.level_check.proofs.Words.{same_next, same-fails, same_ends}
+use Rattle.level_check.proofs.Words.{same_next, same_fails, same_ends}
 use Rattle.level_check.specs.Check.{same_words}
 use lib.ListN.{length, drop}
 use Prim.Native.Nat.{◌-◌, ◌≤◌}
@@ -32,7 +32,7 @@ shared-slice-read-y c = search rules
 
 returns : tie.Need-returns invariant-loop decreases-loop
 returns c =
-    same-fails _ _ c.before.before.before.before.before.requires c.before.before.before.before.loop.k
+    same_fails _ _ c.before.before.before.before.before.requires c.before.before.before.before.loop.k
     c.before.before.before.loop-test.true c.if1.true c.before.before.before.before.loop.invariant.1
 
 add-k : tie.Need-overflow-add-k invariant-loop decreases-loop

@@ -1,7 +1,7 @@
 -- The seeds before b are good, and one that is not ends the pass.
-use Rattle.level_check.proofs.Numbering.{seed-good, seed-bad, none-bad, one-bad}
-use Rattle.level_check.specs.Walk.{seedAt}
-use Rattle.checks.proofs.Stray.{begun-grouped}
+use Rattle.level_check.proofs.Numbering.{seed_good, seed_bad_lem, none_bad, one_bad}
+use Rattle.level_check.specs.Walk.{seed_at}
+use Rattle.checks.proofs.Stray.{begun_grouped}
 use lib.ListN.{length}
 use Prim.Native.Nat.{ℕ, ◌-◌, ◌<◌, ◌≤◌}
 use mathlib.Core.Bool.{true}
@@ -13,7 +13,7 @@ use Rattle.level_check.proofs.seeds.seeds_bad.Statement.{statement}
 use Rattle.level_check.proofs.seeds.seeds_bad.Tie as tie
 
 abbrev invariant-loop : tie.invariant-loop
-invariant-loop limit begins keys seeds b₀ b = (b ≤ length seeds) × ((a : ℕ) → a < b → seedAt limit begins seeds a ≡ true)
+invariant-loop limit begins keys seeds b₀ b = (b ≤ length seeds) × ((a : ℕ) → a < b → seed_at limit begins seeds a ≡ true)
 
 abbrev decreases-loop : tie.decreases-loop
 decreases-loop limit begins keys seeds b₀ b = length seeds - b
@@ -22,7 +22,7 @@ loop-holds : tie.Need-loop-init invariant-loop decreases-loop
 loop-holds c = (omega arith, λ j h. absurd (let z : ⊥ = omega arith in z))
 
 size-of-requires : tie.Need-size-of-requires invariant-loop decreases-loop
-size-of-requires c κs = (begun-grouped c.before.before.before.before.requires c.before.loop.b c.loop-test.true).0
+size-of-requires c κs = (begun_grouped c.before.before.before.before.requires c.before.loop.b c.loop-test.true).0
 
 mul-bad-seed : tie.Need-overflow-mul-bad-seed invariant-loop decreases-loop
 mul-bad-seed c = search rules
@@ -36,9 +36,9 @@ bad-seed-requires c κs = search rules
 returns : tie.Need-returns invariant-loop decreases-loop
 returns c =
     let a = c.before.before.before.before.before.before.before.before.args in
-    one-bad a.limit a.begins.now a.seeds.now c.before.before.before.before.before.loop.b
+    one_bad a.limit a.begins.now a.seeds.now c.before.before.before.before.before.loop.b
     c.before.before.before.before.loop-test.true
-    (seed-bad a.limit a.begins.now a.seeds.now c.before.before.before.before.before.loop.b c.before.before.before.size_of.ensures.0 c.before.bad-seed.ensures c.if1.true)
+    (seed_bad_lem a.limit a.begins.now a.seeds.now c.before.before.before.before.before.loop.b c.before.before.before.size_of.ensures.0 c.before.bad-seed.ensures c.if1.true)
 
 add-b : tie.Need-overflow-add-b invariant-loop decreases-loop
 add-b c = search rules
@@ -49,12 +49,12 @@ loop-less c = search rules
 loop-again : tie.Need-loop-preserved invariant-loop decreases-loop
 loop-again c =
     let a = c.before.before.before.before.before.before.before.before.args in
-    (omega arith, below_more _ c.before.before.before.before.before.loop.b c.before.before.before.before.before.loop.invariant.1 (seed-good a.limit a.begins.now a.seeds.now c.before.before.before.before.before.loop.b c.before.before.before.size_of.ensures.0 c.before.bad-seed.ensures c.if1.false))
+    (omega arith, below_more _ c.before.before.before.before.before.loop.b c.before.before.before.before.before.loop.invariant.1 (seed_good a.limit a.begins.now a.seeds.now c.before.before.before.before.before.loop.b c.before.before.before.size_of.ensures.0 c.before.bad-seed.ensures c.if1.false))
 
 returns-2 : tie.Need-returns-2 invariant-loop decreases-loop
 returns-2 c =
     let a = c.before.before.before.before.args in
-    none-bad a.limit a.begins.now a.seeds.now (λ b h. c.before.loop.invariant.1 b (omega arith))
+    none_bad a.limit a.begins.now a.seeds.now (λ b h. c.before.loop.invariant.1 b (omega arith))
 
 pub seeds-bad-spec : {M : Type 1} → statement M
 seeds-bad-spec =

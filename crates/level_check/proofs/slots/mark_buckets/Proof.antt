@@ -1,7 +1,7 @@
 -- The scratch marks what the buckets before b have met (`Walking`), so the first bucket at which a slot is met again is the lowest.
-use Rattle.level_check.proofs.Walking.{Walking, start, next, hit, done, met-bucket}
-use Rattle.level_check.specs.Check.{levelOf}
-use Rattle.checks.proofs.Stray.{begun-grouped}
+use Rattle.level_check.proofs.Walking.{Walking, start, next, hit, done, met_bucket}
+use Rattle.level_check.specs.Check.{level_of}
+use Rattle.checks.proofs.Stray.{begun_grouped}
 use lib.ListN.{length}
 use Prim.Native.Nat.{◌-◌, ◌≤◌}
 use mathlib.Core.Path.{◌≡◌, refl, ◌∙◌}
@@ -11,7 +11,7 @@ use Rattle.level_check.proofs.slots.mark_buckets.Statement.{statement}
 use Rattle.level_check.proofs.slots.mark_buckets.Tie as tie
 
 abbrev invariant-loop : tie.invariant-loop
-invariant-loop g hashes begins seeds scratch₀ b₀ scratch b = (b ≤ length seeds) × (length scratch ≡ length scratch₀) × Walking (levelOf g.settings hashes begins) seeds b scratch
+invariant-loop g hashes begins seeds scratch₀ b₀ scratch b = (b ≤ length seeds) × (length scratch ≡ length scratch₀) × Walking (level_of g.settings hashes begins) seeds b scratch
 
 abbrev decreases-loop : tie.decreases-loop
 decreases-loop g hashes begins seeds scratch₀ b₀ scratch b = length seeds - b
@@ -20,7 +20,7 @@ loop-holds : tie.Need-loop-init invariant-loop decreases-loop
 loop-holds c = (omega arith, refl, start _ _ _ c.before.before.before.before.requires.1.1)
 
 keys-of-requires : tie.Need-keys-of-requires invariant-loop decreases-loop
-keys-of-requires c κs = begun-grouped c.before.before.before.before.before.before.requires.1.0 c.before.loop.b c.loop-test.true
+keys-of-requires c κs = begun_grouped c.before.before.before.before.before.before.requires.1.0 c.before.loop.b c.loop-test.true
 
 mul-mark-bucket : tie.Need-overflow-mul-mark-bucket invariant-loop decreases-loop
 mul-mark-bucket c = search rules
@@ -39,7 +39,7 @@ returns c =
     hit _ _ c.before.before.before.before.before.before.before.before.loop.b
     c.before.before.before.before.before.before.before.loop-test.true _ _
     c.before.before.before.before.before.before.before.before.loop.invariant.2
-    (met-bucket _ _ _ _ c.before.before.before.before.before.before.before.before.loop.b c.before.before.before.mark-bucket.ensures c.before.before.before.before.before.before.keys_of.ensures c.if1.true)
+    (met_bucket _ _ _ _ c.before.before.before.before.before.before.before.before.loop.b c.before.before.before.mark-bucket.ensures c.before.before.before.before.before.before.keys_of.ensures c.if1.true)
 
 add-b : tie.Need-overflow-add-b invariant-loop decreases-loop
 add-b c = search rules
@@ -49,7 +49,7 @@ loop-less c = search rules
 
 loop-again : tie.Need-loop-preserved invariant-loop decreases-loop
 loop-again c =
-    (omega arith, c.before.before.before.mark-bucket.ensures.long ∙ c.before.before.before.before.before.before.before.before.loop.invariant.1, next _ _ c.before.before.before.before.before.before.before.before.loop.b c.before.before.before.before.before.before.before.loop-test.true _ _ c.before.before.before.before.before.before.before.before.loop.invariant.2 (met-bucket _ _ _ _ c.before.before.before.before.before.before.before.before.loop.b c.before.before.before.mark-bucket.ensures c.before.before.before.before.before.before.keys_of.ensures c.if1.false))
+    (omega arith, c.before.before.before.mark-bucket.ensures.long ∙ c.before.before.before.before.before.before.before.before.loop.invariant.1, next _ _ c.before.before.before.before.before.before.before.before.loop.b c.before.before.before.before.before.before.before.loop-test.true _ _ c.before.before.before.before.before.before.before.before.loop.invariant.2 (met_bucket _ _ _ _ c.before.before.before.before.before.before.before.before.loop.b c.before.before.before.mark-bucket.ensures c.before.before.before.before.before.before.keys_of.ensures c.if1.false))
 
 same-length-2 : tie.Need-same-length-2 invariant-loop decreases-loop
 same-length-2 c = search rules

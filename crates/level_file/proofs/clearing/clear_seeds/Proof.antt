@@ -1,5 +1,5 @@
 -- `clear_seeds`: zeroes so far (`Zeroed`). Assumes nothing.
-use Rattle.level_file.proofs.ClearLaws.{Zeroed, zeroed_start, zeroed_step, zeroed-all}
+use Rattle.level_file.proofs.ClearLaws.{Zeroed, zeroed_start, zeroed_step, zeroed_all}
 use borrow.Author.Rules.{rules}
 use native.Mathlib.Omega.{arith}
 use Prim.Native.Nat.{◌-◌}
@@ -35,7 +35,7 @@ same_length : tie.Need-same-length invariant-loop decreases-loop
 same_length c = c.before.loop.invariant.same
 
 returns : tie.Need-returns invariant-loop decreases-loop
-returns c = zeroed-all _ _ _ c.before.loop.invariant (omega arith)
+returns c = zeroed_all _ _ _ c.before.loop.invariant (omega arith)
 
 pub clear-seeds-spec : {M : Type 1} → statement M
 clear-seeds-spec = tie.close (tie.spec invariant-loop decreases-loop loop-holds mul-seeds slice-write-seeds add-i loop-less loop-again same_length returns)

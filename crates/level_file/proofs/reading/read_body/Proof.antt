@@ -1,13 +1,13 @@
 -- `read_body`: the seeds and the holes, where the seeds have room. Assumes nothing.
-use Rattle.level_file.proofs.PartLaws.{level-refused, seeds-void, holes-void, body-room, body-no, body_refused, body-told, body-seeds, body-holes, seeds-told, seeds-left}
+use Rattle.level_file.proofs.PartLaws.{level_refused, seeds_void, holes_void, body_room, body_no, body_refused, body_told, body_seeds, body_holes, seeds_told, seeds_left}
 use borrow.Author.Rules.{rules}
 use Rattle.level_file.proofs.reading.read_body.Statement.{statement}
 use Rattle.level_file.proofs.reading.read_body.Tie as tie
 
 returns : tie.Need-returns
 returns c =
-    let e = body-room _ _ _ _ _ c.if1.true in
-    (level-refused _ 26 e, (seeds-void _ 26 e _ _, holes-void _ 26 e _ _))
+    let e = body_room _ _ _ _ _ c.if1.true in
+    (level_refused _ 26 e, (seeds_void _ 26 e _ _, holes_void _ 26 e _ _))
 
 power-of-two-requires : tie.Need-power-of-two-requires
 power-of-two-requires c κs = search rules
@@ -40,12 +40,12 @@ returns-2 : tie.Need-returns-2
 returns-2 c =
     let a = c.before.before.before.before.before.before.before.before.before.before.before.before.before.before.before.before.before.before.before.args in
     let p = c.before.before.before.before.before.before.before.before.before.before.before.before.before.before.power-of-two.ensures.0 in
-    let t = seeds-told _ _ _ _ a.settings p _ c.before.before.before.before.before.before.before.before.before.before.before.before.read-seeds.ensures.0 in
+    let t = seeds_told _ _ _ _ a.settings p _ c.before.before.before.before.before.before.before.before.before.before.before.before.read-seeds.ensures.0 in
     let f = c.before.before.before.before.before.before.before.before.before.before.before.before.before.before.before.if1.false in (
-      body-told _ _ _ _ _ f _ t _ _ c.before.before.before.before.before.before.before.before.next.given.1 _ c.before.before.before.before.before.read-hole-part.ensures.0 _ _ c.before.value.given.1,
+      body_told _ _ _ _ _ f _ t _ _ c.before.before.before.before.before.before.before.before.next.given.1 _ c.before.before.before.before.before.read-hole-part.ensures.0 _ _ c.before.value.given.1,
       (
-        body-seeds _ _ _ _ _ f _ t _ _ c.before.before.before.before.before.before.before.before.next.given.1 _ c.before.before.before.before.before.read-hole-part.ensures.0 _ _ c.before.value.given.1 _ _ (seeds-left _ _ _ _ a.settings p _ _ c.before.before.before.before.before.before.before.before.before.before.before.before.read-seeds.ensures.1),
-        body-holes _ _ _ _ _ f _ t _ _ c.before.before.before.before.before.before.before.before.next.given.1 _ c.before.before.before.before.before.read-hole-part.ensures.0 _ _ c.before.value.given.1 _ _ c.before.before.before.before.before.read-hole-part.ensures.1,
+        body_seeds _ _ _ _ _ f _ t _ _ c.before.before.before.before.before.before.before.before.next.given.1 _ c.before.before.before.before.before.read-hole-part.ensures.0 _ _ c.before.value.given.1 _ _ (seeds_left _ _ _ _ a.settings p _ _ c.before.before.before.before.before.before.before.before.before.before.before.before.read-seeds.ensures.1),
+        body_holes _ _ _ _ _ f _ t _ _ c.before.before.before.before.before.before.before.before.next.given.1 _ c.before.before.before.before.before.read-hole-part.ensures.0 _ _ c.before.value.given.1 _ _ c.before.before.before.before.before.read-hole-part.ensures.1,
       ),
     )
 
@@ -58,9 +58,9 @@ same-length-4 c = search rules
 returns-3 : tie.Need-returns-3
 returns-3 c =
     let a = c.before.before.before.before.before.before.before.before.before.before.before.before.before.before.before.before.before.before.before.args in
-    let t = seeds-told _ _ _ _ a.settings c.before.before.before.before.before.before.before.before.before.before.before.before.before.before.power-of-two.ensures.0 _ c.before.before.before.before.before.before.before.before.before.before.before.before.read-seeds.ensures.0 in
+    let t = seeds_told _ _ _ _ a.settings c.before.before.before.before.before.before.before.before.before.before.before.before.before.before.power-of-two.ensures.0 _ c.before.before.before.before.before.before.before.before.before.before.before.before.read-seeds.ensures.0 in
     let e = body_refused _ _ _ _ _ c.before.before.before.before.before.before.before.before.before.before.before.before.before.before.before.if1.false _ t _ _ c.before.before.before.before.before.before.before.before.next.given.1 _ c.before.before.before.before.before.read-hole-part.ensures.0 _ c.before.n.given.1 in
-    (level-refused _ _ e, (seeds-void _ _ e _ _, holes-void _ _ e _ _))
+    (level_refused _ _ e, (seeds_void _ _ e _ _, holes_void _ _ e _ _))
 
 same-length-5 : tie.Need-same-length-5
 same-length-5 c = search rules
@@ -68,9 +68,9 @@ same-length-5 c = search rules
 returns-4 : tie.Need-returns-4
 returns-4 c =
     let a = c.before.before.before.before.before.before.before.before.before.before.before.before.args in
-    let t = seeds-told _ _ _ _ a.settings c.before.before.before.before.before.before.before.power-of-two.ensures.0 _ c.before.before.before.before.before.read-seeds.ensures.0 in
-    let e = body-no _ _ _ _ _ c.before.before.before.before.before.before.before.before.if1.false _ t _ c.before.n2.given.1 in
-    (level-refused _ _ e, (seeds-void _ _ e _ _, holes-void _ _ e _ _))
+    let t = seeds_told _ _ _ _ a.settings c.before.before.before.before.before.before.before.power-of-two.ensures.0 _ c.before.before.before.before.before.read-seeds.ensures.0 in
+    let e = body_no _ _ _ _ _ c.before.before.before.before.before.before.before.before.if1.false _ t _ c.before.n2.given.1 in
+    (level_refused _ _ e, (seeds_void _ _ e _ _, holes_void _ _ e _ _))
 
 pub read-body-spec : {M : Type 1} → statement M
 read-body-spec =

@@ -1,6 +1,6 @@
 -- `read_file`: what was read where it is accepted, and zeroes where it is refused. Assumes nothing.
 use lib.ListN.{length}
-use Rattle.level_file.proofs.PartLaws.{said_read, full-seeds, full-holes, zero-seeds, zero-holes, as_many}
+use Rattle.level_file.proofs.PartLaws.{said_read_lem, full_seeds, full_holes, zero_seeds, zero_holes, as_many}
 use mathlib.Core.Path.{◌≡◌, sym, ◌∙◌}
 use borrow.Author.Rules.{rules}
 use Rattle.level_file.proofs.reading.read_file.Statement.{statement}
@@ -31,7 +31,7 @@ returns : tie.Need-returns
 returns c =
     let l = c.before.before.before.before.before.before.before.read-lent.ensures in
     let e = c.before.settings.given.1 in
-    (said_read _ _ (sym e ∙ l.0), (full-seeds _ _ l.0 _ _ _ _ e l.1.0, full-holes _ _ l.0 _ _ _ _ e l.1.1))
+    (said_read_lem _ _ (sym e ∙ l.0), (full_seeds _ _ l.0 _ _ _ _ e l.1.0, full_holes _ _ l.0 _ _ _ _ e l.1.1))
 
 same-length-3 : tie.Need-same-length-3
 same-length-3 c = search rules
@@ -47,10 +47,10 @@ returns-2 c =
     let e = c.before.before.before.before.before.before.before.before.before.n.given.1 in
     let s : length r.new.1.0 ≡ length a.seeds.now = search rules in
     let h : length r.new.1.1.0 ≡ length a.holes.now = search rules in (
-      said_read _ _ (sym e ∙ l.0),
+      said_read_lem _ _ (sym e ∙ l.0),
       (
-        zero-seeds _ _ l.0 a.seeds.now _ _ e (as_many a.seeds.now r.new.1.0 _ s c.before.before.before.before.before.before.clear-seeds.ensures),
-        zero-holes _ _ l.0 a.holes.now _ _ e (as_many a.holes.now r.new.1.1.0 _ h c.before.before.clear-holes.ensures),
+        zero_seeds _ _ l.0 a.seeds.now _ _ e (as_many a.seeds.now r.new.1.0 _ s c.before.before.before.before.before.before.clear-seeds.ensures),
+        zero_holes _ _ l.0 a.holes.now _ _ e (as_many a.holes.now r.new.1.1.0 _ h c.before.before.clear-holes.ensures),
       ),
     )
 

@@ -1,6 +1,6 @@
 -- `read_hole_part`: the count, the holes, and that nothing is left over. Assumes nothing.
-use Rattle.level_file.proofs.PartLaws.{list-refused, list-void, part_no, part-many, part_room, part-refused, part-over, part-told, part-leaves}
-use Rattle.level_file.proofs.FillLaws.{number-got, number-no}
+use Rattle.level_file.proofs.PartLaws.{list_refused, list_void, part_no, part_many, part_room, part_refused, part_over, part_told, part_leaves}
+use Rattle.level_file.proofs.FillLaws.{number_got, number_no}
 use borrow.Author.Rules.{rules}
 use Rattle.level_file.proofs.reading.read_hole_part.Statement.{statement}
 use Rattle.level_file.proofs.reading.read_hole_part.Tie as tie
@@ -13,13 +13,13 @@ enum-known-count c = search rules
 
 returns : tie.Need-returns
 returns c =
-    let e = part-many _ _ _ _ _ _ (number-got _ _ _ c.before.before.before.before.number_at.ensures _ _ c.before.before.count.given.1) c.if1.true in
-    (list-refused _ 24 e, list-void _ 24 e _ _)
+    let e = part_many _ _ _ _ _ _ (number_got _ _ _ c.before.before.before.before.number_at.ensures _ _ c.before.before.count.given.1) c.if1.true in
+    (list_refused _ 24 e, list_void _ 24 e _ _)
 
 returns-2 : tie.Need-returns-2
 returns-2 c =
-    let e = part_room _ _ _ _ _ _ (number-got _ _ _ c.before.before.before.before.before.number_at.ensures _ _ c.before.before.before.count.given.1) c.before.if1.false c.if2.true in
-    (list-refused _ 26 e, list-void _ 26 e _ _)
+    let e = part_room _ _ _ _ _ _ (number_got _ _ _ c.before.before.before.before.before.number_at.ensures _ _ c.before.before.before.count.given.1) c.before.if1.false c.if2.true in
+    (list_refused _ 26 e, list_void _ 26 e _ _)
 
 read-holes-requires : tie.Need-read-holes-requires
 read-holes-requires c κs = search rules
@@ -32,8 +32,8 @@ same_length c = search rules
 
 returns-3 : tie.Need-returns-3
 returns-3 c =
-    let e = part-over _ _ _ _ _ _ (number-got _ _ _ c.before.before.before.before.before.before.before.before.before.before.before.before.before.number_at.ensures _ _ c.before.before.before.before.before.before.before.before.before.before.before.count.given.1) c.before.before.before.before.before.before.before.before.before.if1.false c.before.before.before.before.before.before.before.before.if2.false _ c.before.before.before.before.before.before.read-holes.ensures.0 _ _ c.before.before.value.given.1 c.if3.true in
-    (list-refused _ 25 e, list-void _ 25 e _ _)
+    let e = part_over _ _ _ _ _ _ (number_got _ _ _ c.before.before.before.before.before.before.before.before.before.before.before.before.before.number_at.ensures _ _ c.before.before.before.before.before.before.before.before.before.before.before.count.given.1) c.before.before.before.before.before.before.before.before.before.if1.false c.before.before.before.before.before.before.before.before.if2.false _ c.before.before.before.before.before.before.read-holes.ensures.0 _ _ c.before.before.value.given.1 c.if3.true in
+    (list_refused _ 25 e, list_void _ 25 e _ _)
 
 enum-known-n : tie.Need-enum-known-n
 enum-known-n c = search rules
@@ -46,9 +46,9 @@ same-length-2 c = search rules
 
 returns-4 : tie.Need-returns-4
 returns-4 c =
-    let n = number-got _ _ _ c.before.before.before.before.before.before.before.before.before.before.before.before.before.number_at.ensures _ _ c.before.before.before.before.before.before.before.before.before.before.before.count.given.1 in (
-      part-told _ _ _ _ _ _ n c.before.before.before.before.before.before.before.before.before.if1.false c.before.before.before.before.before.before.before.before.if2.false _ c.before.before.before.before.before.before.read-holes.ensures.0 _ _ c.before.before.value.given.1 c.if3.false,
-      part-leaves _ _ _ _ _ _ n c.before.before.before.before.before.before.before.before.before.if1.false c.before.before.before.before.before.before.before.before.if2.false _ c.before.before.before.before.before.before.read-holes.ensures.0 _ _ c.before.before.value.given.1 c.if3.false _ _ c.before.before.before.before.before.before.read-holes.ensures.1,
+    let n = number_got _ _ _ c.before.before.before.before.before.before.before.before.before.before.before.before.before.number_at.ensures _ _ c.before.before.before.before.before.before.before.before.before.before.before.count.given.1 in (
+      part_told _ _ _ _ _ _ n c.before.before.before.before.before.before.before.before.before.if1.false c.before.before.before.before.before.before.before.before.if2.false _ c.before.before.before.before.before.before.read-holes.ensures.0 _ _ c.before.before.value.given.1 c.if3.false,
+      part_leaves _ _ _ _ _ _ n c.before.before.before.before.before.before.before.before.before.if1.false c.before.before.before.before.before.before.before.before.if2.false _ c.before.before.before.before.before.before.read-holes.ensures.0 _ _ c.before.before.value.given.1 c.if3.false _ _ c.before.before.before.before.before.before.read-holes.ensures.1,
     )
 
 same-length-3 : tie.Need-same-length-3
@@ -56,13 +56,13 @@ same-length-3 c = search rules
 
 returns-5 : tie.Need-returns-5
 returns-5 c =
-    let e = part-refused _ _ _ _ _ _ (number-got _ _ _ c.before.before.before.before.before.before.before.before.before.before.before.before.number_at.ensures _ _ c.before.before.before.before.before.before.before.before.before.before.count.given.1) c.before.before.before.before.before.before.before.before.if1.false c.before.before.before.before.before.before.before.if2.false _ c.before.before.before.before.before.read-holes.ensures.0 _ c.before.n.given.1 in
-    (list-refused _ _ e, list-void _ _ e _ _)
+    let e = part_refused _ _ _ _ _ _ (number_got _ _ _ c.before.before.before.before.before.before.before.before.before.before.before.before.number_at.ensures _ _ c.before.before.before.before.before.before.before.before.before.before.count.given.1) c.before.before.before.before.before.before.before.before.if1.false c.before.before.before.before.before.before.before.if2.false _ c.before.before.before.before.before.read-holes.ensures.0 _ c.before.n.given.1 in
+    (list_refused _ _ e, list_void _ _ e _ _)
 
 returns-6 : tie.Need-returns-6
 returns-6 c =
-    let e = part_no _ _ _ _ _ (number-no _ _ _ c.before.before.before.number_at.ensures _ c.before.n2.given.1) in
-    (list-refused _ _ e, list-void _ _ e _ _)
+    let e = part_no _ _ _ _ _ (number_no _ _ _ c.before.before.before.number_at.ensures _ c.before.n2.given.1) in
+    (list_refused _ _ e, list_void _ _ e _ _)
 
 pub read-hole-part-spec : {M : Type 1} → statement M
 read-hole-part-spec =

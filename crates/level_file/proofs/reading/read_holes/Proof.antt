@@ -1,6 +1,6 @@
 -- `read_holes`: as `read_seeds`, with the hole before and the least difference as what goes on. Assumes nothing.
-use Rattle.level_file.proofs.FillLaws.{Filling, filling-start, filling_step, filling-refused, filling-void, filling-done, filling-leaves, number-got, number-no, holes-next, holes-low, holes-high, holes-no, holes-start, holes-none}
-use Rattle.level_file.specs.Reading.{holesAt}
+use Rattle.level_file.proofs.FillLaws.{Filling, filling_start, filling_step, filling_refused, filling_void, filling_done, filling_leaves, number_got, number_no, holes_next, holes_low, holes_high, holes_no, holes_start, holes_none}
+use Rattle.level_file.specs.Reading.{holes_at}
 use borrow.Author.Rules.{rules}
 use native.Mathlib.Omega.{arith}
 use Prim.Native.Nat.{◌-◌, ◌≤◌}
@@ -8,13 +8,13 @@ use Rattle.level_file.proofs.reading.read_holes.Statement.{statement}
 use Rattle.level_file.proofs.reading.read_holes.Tie as tie
 
 abbrev invariant-loop : tie.invariant-loop
-invariant-loop bytes at m count holes₀ place₀ before₀ least₀ i₀ holes place before least i = Filling (holesAt bytes m count 0 0 at) (holesAt bytes m (count - i) before least place) holes₀ holes i × (i ≤ count) × (before ≤ m)
+invariant-loop bytes at m count holes₀ place₀ before₀ least₀ i₀ holes place before least i = Filling (holes_at bytes m count 0 0 at) (holes_at bytes m (count - i) before least place) holes₀ holes i × (i ≤ count) × (before ≤ m)
 
 abbrev decreases-loop : tie.decreases-loop
 decreases-loop bytes at m count holes₀ place₀ before₀ least₀ i₀ holes place before least i = count - i
 
 loop-holds : tie.Need-loop-init invariant-loop decreases-loop
-loop-holds c = (filling-start _ _ _ (holes-start _ _ _ _), omega arith, omega arith)
+loop-holds c = (filling_start _ _ _ (holes_start _ _ _ _), omega arith, omega arith)
 
 number-at-requires : tie.Need-number-at-requires invariant-loop decreases-loop
 number-at-requires c κs = search rules
@@ -29,8 +29,8 @@ returns : tie.Need-returns invariant-loop decreases-loop
 returns c =
     let a = c.before.before.before.before.before.before.before.before.before.args in
     let l = c.before.before.before.before.before.before.loop in
-    let e = holes-low a.bytes.now a.m a.count l.i l.before l.least l.place c.before.before.before.before.before.loop-test.true _ _ (number-got _ _ _ c.before.before.before.before.number_at.ensures _ _ c.before.before.value.given.1) c.if1.true in
-    (filling-refused _ _ _ _ _ l.invariant.0 24 e, filling-void _ _ _ _ _ l.invariant.0 24 e)
+    let e = holes_low a.bytes.now a.m a.count l.i l.before l.least l.place c.before.before.before.before.before.loop-test.true _ _ (number_got _ _ _ c.before.before.before.before.number_at.ensures _ _ c.before.before.value.given.1) c.if1.true in
+    (filling_refused _ _ _ _ _ l.invariant.0 24 e, filling_void _ _ _ _ _ l.invariant.0 24 e)
 
 sub-if2 : tie.Need-overflow-sub-if2 invariant-loop decreases-loop
 sub-if2 c = search rules
@@ -42,8 +42,8 @@ returns-2 : tie.Need-returns-2 invariant-loop decreases-loop
 returns-2 c =
     let a = c.before.before.before.before.before.before.before.before.before.before.args in
     let l = c.before.before.before.before.before.before.before.loop in
-    let e = holes-high a.bytes.now a.m a.count l.i l.before l.least l.place c.before.before.before.before.before.before.loop-test.true _ _ (number-got _ _ _ c.before.before.before.before.before.number_at.ensures _ _ c.before.before.before.value.given.1) c.before.if1.false c.if2.true in
-    (filling-refused _ _ _ _ _ l.invariant.0 24 e, filling-void _ _ _ _ _ l.invariant.0 24 e)
+    let e = holes_high a.bytes.now a.m a.count l.i l.before l.least l.place c.before.before.before.before.before.before.loop-test.true _ _ (number_got _ _ _ c.before.before.before.before.before.number_at.ensures _ _ c.before.before.before.value.given.1) c.before.if1.false c.if2.true in
+    (filling_refused _ _ _ _ _ l.invariant.0 24 e, filling_void _ _ _ _ _ l.invariant.0 24 e)
 
 add-before : tie.Need-overflow-add-before invariant-loop decreases-loop
 add-before c = search rules
@@ -67,8 +67,8 @@ returns-3 : tie.Need-returns-3 invariant-loop decreases-loop
 returns-3 c =
     let a = c.before.before.before.before.before.before.before.before.args in
     let l = c.before.before.before.before.before.loop in
-    let e = holes-no a.bytes.now a.m a.count l.i l.before l.least l.place c.before.before.before.before.loop-test.true _ (number-no _ _ _ c.before.before.before.number_at.ensures _ c.before.n.given.1) in
-    (filling-refused _ _ _ _ _ l.invariant.0 _ e, filling-void _ _ _ _ _ l.invariant.0 _ e)
+    let e = holes_no a.bytes.now a.m a.count l.i l.before l.least l.place c.before.before.before.before.loop-test.true _ (number_no _ _ _ c.before.before.before.number_at.ensures _ c.before.n.given.1) in
+    (filling_refused _ _ _ _ _ l.invariant.0 _ e, filling_void _ _ _ _ _ l.invariant.0 _ e)
 
 add-i : tie.Need-overflow-add-i invariant-loop decreases-loop
 add-i c = search rules
@@ -80,7 +80,7 @@ loop-again : tie.Need-loop-preserved invariant-loop decreases-loop
 loop-again c =
     let a = c.before.before.before.before.before.before.before.before.before.before.args in
     let l = c.before.before.before.before.before.before.before.loop in
-    let e = holes-next a.bytes.now a.m a.count l.i l.before l.least l.place c.before.before.before.before.before.before.loop-test.true _ _ (number-got _ _ _ c.before.before.before.before.before.number_at.ensures _ _ c.before.before.before.value.given.1) c.before.if1.false c.if2.false in
+    let e = holes_next a.bytes.now a.m a.count l.i l.before l.least l.place c.before.before.before.before.before.before.loop-test.true _ _ (number_got _ _ _ c.before.before.before.before.before.number_at.ensures _ _ c.before.before.before.value.given.1) c.before.if1.false c.if2.false in
     (filling_step _ _ _ _ _ l.invariant.0 _ _ (omega (arith, l.invariant.0.same)) e, omega arith, omega arith)
 
 same-length-4 : tie.Need-same-length-4 invariant-loop decreases-loop
@@ -90,8 +90,8 @@ returns-4 : tie.Need-returns-4 invariant-loop decreases-loop
 returns-4 c =
     let a = c.before.before.before.before.args in
     let l = c.before.loop in
-    let e = holes-none a.bytes.now a.m a.count l.i l.before l.least l.place c.loop-test.false in
-    (filling-done _ _ _ _ _ l.invariant.0 _ (omega (arith, l.invariant.0.same)) e, filling-leaves _ _ _ _ _ l.invariant.0 _ (omega (arith, l.invariant.0.same)) e)
+    let e = holes_none a.bytes.now a.m a.count l.i l.before l.least l.place c.loop-test.false in
+    (filling_done _ _ _ _ _ l.invariant.0 _ (omega (arith, l.invariant.0.same)) e, filling_leaves _ _ _ _ _ l.invariant.0 _ (omega (arith, l.invariant.0.same)) e)
 
 pub read-holes-spec : {M : Type 1} → statement M
 read-holes-spec =

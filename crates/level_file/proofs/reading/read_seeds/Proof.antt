@@ -1,7 +1,7 @@
 -- `read_seeds`: at each turn the whole gives what the seeds so far and what is left to read give (`Filling`). Assumes nothing.
-use Rattle.level_file.proofs.FillLaws.{Filling, filling-start, filling_step, filling-refused, filling-void, filling-done, filling-leaves, number-got, number-no, numbers-next, numbers-bad, numbers-no, numbers-start, numbers-none}
-use Rattle.level_file.specs.Format.{notBelow}
-use Rattle.level_file.specs.Reading.{numbersAt}
+use Rattle.level_file.proofs.FillLaws.{Filling, filling_start, filling_step, filling_refused, filling_void, filling_done, filling_leaves, number_got, number_no, numbers_next, numbers_bad, numbers_no, numbers_start, numbers_none}
+use Rattle.level_file.specs.Format.{not_below}
+use Rattle.level_file.specs.Reading.{numbers_at}
 use borrow.Author.Rules.{rules}
 use native.Mathlib.Omega.{arith}
 use Prim.Native.Nat.{◌-◌, ◌≤◌}
@@ -9,13 +9,13 @@ use Rattle.level_file.proofs.reading.read_seeds.Statement.{statement}
 use Rattle.level_file.proofs.reading.read_seeds.Tie as tie
 
 abbrev invariant-loop : tie.invariant-loop
-invariant-loop bytes at limit count seeds₀ place₀ i₀ seeds place i = Filling (numbersAt bytes (notBelow limit) count at) (numbersAt bytes (notBelow limit) (count - i) place) seeds₀ seeds i × (i ≤ count)
+invariant-loop bytes at limit count seeds₀ place₀ i₀ seeds place i = Filling (numbers_at bytes (not_below limit) count at) (numbers_at bytes (not_below limit) (count - i) place) seeds₀ seeds i × (i ≤ count)
 
 abbrev decreases-loop : tie.decreases-loop
 decreases-loop bytes at limit count seeds₀ place₀ i₀ seeds place i = count - i
 
 loop-holds : tie.Need-loop-init invariant-loop decreases-loop
-loop-holds c = (filling-start _ _ _ (numbers-start _ _ _ _), omega arith)
+loop-holds c = (filling_start _ _ _ (numbers_start _ _ _ _), omega arith)
 
 number-at-requires : tie.Need-number-at-requires invariant-loop decreases-loop
 number-at-requires c κs = search rules
@@ -30,8 +30,8 @@ returns : tie.Need-returns invariant-loop decreases-loop
 returns c =
     let a = c.before.before.before.before.before.before.before.before.before.args in
     let l = c.before.before.before.before.before.before.loop in
-    let e = numbers-bad a.bytes.now a.limit a.count l.i l.place c.before.before.before.before.before.loop-test.true _ _ (number-got _ _ _ c.before.before.before.before.number_at.ensures _ _ c.before.before.value.given.1) c.if1.true in
-    (filling-refused _ _ _ _ _ l.invariant.0 24 e, filling-void _ _ _ _ _ l.invariant.0 24 e)
+    let e = numbers_bad a.bytes.now a.limit a.count l.i l.place c.before.before.before.before.before.loop-test.true _ _ (number_got _ _ _ c.before.before.before.before.number_at.ensures _ _ c.before.before.value.given.1) c.if1.true in
+    (filling_refused _ _ _ _ _ l.invariant.0 24 e, filling_void _ _ _ _ _ l.invariant.0 24 e)
 
 cast-seeds : tie.Need-overflow-cast-seeds invariant-loop decreases-loop
 cast-seeds c = search rules
@@ -52,8 +52,8 @@ returns-2 : tie.Need-returns-2 invariant-loop decreases-loop
 returns-2 c =
     let a = c.before.before.before.before.before.before.before.before.args in
     let l = c.before.before.before.before.before.loop in
-    let e = numbers-no a.bytes.now a.limit a.count l.i l.place c.before.before.before.before.loop-test.true _ (number-no _ _ _ c.before.before.before.number_at.ensures _ c.before.n.given.1) in
-    (filling-refused _ _ _ _ _ l.invariant.0 _ e, filling-void _ _ _ _ _ l.invariant.0 _ e)
+    let e = numbers_no a.bytes.now a.limit a.count l.i l.place c.before.before.before.before.loop-test.true _ (number_no _ _ _ c.before.before.before.number_at.ensures _ c.before.n.given.1) in
+    (filling_refused _ _ _ _ _ l.invariant.0 _ e, filling_void _ _ _ _ _ l.invariant.0 _ e)
 
 add-i : tie.Need-overflow-add-i invariant-loop decreases-loop
 add-i c = search rules
@@ -65,7 +65,7 @@ loop-again : tie.Need-loop-preserved invariant-loop decreases-loop
 loop-again c =
     let a = c.before.before.before.before.before.before.before.before.before.args in
     let l = c.before.before.before.before.before.before.loop in
-    let e = numbers-next a.bytes.now a.limit a.count l.i l.place c.before.before.before.before.before.loop-test.true _ _ (number-got _ _ _ c.before.before.before.before.number_at.ensures _ _ c.before.before.value.given.1) (omega arith) in
+    let e = numbers_next a.bytes.now a.limit a.count l.i l.place c.before.before.before.before.before.loop-test.true _ _ (number_got _ _ _ c.before.before.before.before.number_at.ensures _ _ c.before.before.value.given.1) (omega arith) in
     (filling_step _ _ _ _ _ l.invariant.0 _ _ (omega (arith, l.invariant.0.same)) e, omega arith)
 
 same-length-3 : tie.Need-same-length-3 invariant-loop decreases-loop
@@ -75,8 +75,8 @@ returns-3 : tie.Need-returns-3 invariant-loop decreases-loop
 returns-3 c =
     let a = c.before.before.before.before.args in
     let l = c.before.loop in
-    let e = numbers-none a.bytes.now a.limit a.count l.i l.place c.loop-test.false in
-    (filling-done _ _ _ _ _ l.invariant.0 _ (omega (arith, l.invariant.0.same)) e, filling-leaves _ _ _ _ _ l.invariant.0 _ (omega (arith, l.invariant.0.same)) e)
+    let e = numbers_none a.bytes.now a.limit a.count l.i l.place c.loop-test.false in
+    (filling_done _ _ _ _ _ l.invariant.0 _ (omega (arith, l.invariant.0.same)) e, filling_leaves _ _ _ _ _ l.invariant.0 _ (omega (arith, l.invariant.0.same)) e)
 
 pub read-seeds-spec : {M : Type 1} → statement M
 read-seeds-spec =

@@ -1,5 +1,5 @@
 -- `put_numbers`: what is left from the present place on (`Putting`). Assumes nothing.
-use Rattle.level_file.proofs.PutLaws.{drop-as, drop_all, Putting, putting-start, putting-room, putting-step, putting-end, putting-done}
+use Rattle.level_file.proofs.PutLaws.{drop_as, drop_all, Putting, putting_start, putting_room, putting_step, putting_end, putting_done}
 use mathlib.Core.Path.{refl}
 use borrow.Author.Rules.{rules}
 use native.Mathlib.Omega.{arith}
@@ -15,7 +15,7 @@ abbrev decreases-loop : tie.decreases-loop
 decreases-loop numbers out₀ at place₀ i₀ out place i = length numbers - i
 
 loop-holds : tie.Need-loop-init invariant-loop decreases-loop
-loop-holds c = (putting-start _ _ _ _ refl, omega arith)
+loop-holds c = (putting_start _ _ _ _ refl, omega arith)
 
 mul-number : tie.Need-overflow-mul-number invariant-loop decreases-loop
 mul-number c = search rules
@@ -25,7 +25,7 @@ shared-slice-read-number c = search rules
 
 put-groups-requires : tie.Need-put-groups-requires invariant-loop decreases-loop
 put-groups-requires c κs =
-    putting-room _ _ _ _ _ _ c.before.before.before.loop.invariant.0 _ _ (drop-as _ _ _ (refl) c.before.before.loop-test.true) c.before.before.before.before.before.before.requires
+    putting_room _ _ _ _ _ _ c.before.before.before.loop.invariant.0 _ _ (drop_as _ _ _ (refl) c.before.before.loop-test.true) c.before.before.before.before.before.before.requires
 
 add-i : tie.Need-overflow-add-i invariant-loop decreases-loop
 add-i c = search rules
@@ -36,7 +36,7 @@ loop-less c = omega arith
 loop-again : tie.Need-loop-preserved invariant-loop decreases-loop
 loop-again c =
     let g = c.before.before.put-groups.ensures in
-    (putting-step _ _ _ _ _ _ c.before.before.before.before.before.before.loop.invariant.0 _ _ (drop-as _ _ _ (refl) c.before.before.before.before.before.loop-test.true) _ _ g.1 g.0, omega arith)
+    (putting_step _ _ _ _ _ _ c.before.before.before.before.before.before.loop.invariant.0 _ _ (drop_as _ _ _ (refl) c.before.before.before.before.before.loop-test.true) _ _ g.1 g.0, omega arith)
 
 same_length : tie.Need-same-length invariant-loop decreases-loop
 same_length c = c.before.loop.invariant.0.same
@@ -45,7 +45,7 @@ returns : tie.Need-returns invariant-loop decreases-loop
 returns c =
     let l = c.before.loop in
     let e = drop_all _ _ c.loop-test.false in
-    (putting-end _ _ _ _ _ _ l.invariant.0 e, putting-done _ _ _ _ _ _ l.invariant.0 e)
+    (putting_end _ _ _ _ _ _ l.invariant.0 e, putting_done _ _ _ _ _ _ l.invariant.0 e)
 
 pub put-numbers-spec : {M : Type 1} → statement M
 put-numbers-spec =

@@ -1,6 +1,6 @@
 -- `write_file`: the file where no number applies, and zeroes where one does. Assumes nothing.
-use Rattle.level_file.proofs.WriteLaws.{writable-climbs, write-refused, write-zero, may_write, write_done, write-file}
-use Rattle.level_file.specs.Format.{levelOf}
+use Rattle.level_file.proofs.WriteLaws.{writable_climbs, write_refused, write_zero, may_write, write_done, write_file}
+use Rattle.level_file.specs.Format.{level_of}
 use borrow.Author.Rules.{rules}
 use Rattle.level_file.proofs.writing.write_file.Statement.{statement}
 use Rattle.level_file.proofs.writing.write_file.Tie as tie
@@ -19,13 +19,13 @@ returns c =
     let a = c.before.before.before.before.before.before.before.before.before.args in
     let e = c.before.before.before.before.before.write-number.ensures in
     let z = c.before.before.before.before.if1.true in
-    (write-refused (levelOf a.settings a.seeds.now a.holes.now) a.out.now _ e z, write-zero (levelOf a.settings a.seeds.now a.holes.now) a.out.now _ e z _ c.before.before.clear-bytes.ensures)
+    (write_refused (level_of a.settings a.seeds.now a.holes.now) a.out.now _ e z, write_zero (level_of a.settings a.seeds.now a.holes.now) a.out.now _ e z _ c.before.before.clear-bytes.ensures)
 
 put-file-requires : tie.Need-put-file-requires
 put-file-requires c κs =
     let a = c.before.before.before.before.before.before.args in
-    let w = may_write (levelOf a.settings a.seeds.now a.holes.now) a.out.now _ c.before.before.write-number.ensures c.before.if1.false in
-    (writable-climbs (levelOf a.settings a.seeds.now a.holes.now) w.0, w.1)
+    let w = may_write (level_of a.settings a.seeds.now a.holes.now) a.out.now _ c.before.before.write-number.ensures c.before.if1.false in
+    (writable_climbs (level_of a.settings a.seeds.now a.holes.now) w.0, w.1)
 
 same-length-2 : tie.Need-same-length-2
 same-length-2 c = search rules
@@ -36,7 +36,7 @@ returns-2 c =
     let e = c.before.before.before.before.before.write-number.ensures in
     let z = c.before.before.before.before.if1.false in
     let f = c.before.before.put-file.ensures in
-    (write_done (levelOf a.settings a.seeds.now a.holes.now) a.out.now _ e z _ f.0, write-file (levelOf a.settings a.seeds.now a.holes.now) a.out.now _ e z _ f.1)
+    (write_done (level_of a.settings a.seeds.now a.holes.now) a.out.now _ e z _ f.0, write_file (level_of a.settings a.seeds.now a.holes.now) a.out.now _ e z _ f.1)
 
 pub write-file-spec : {M : Type 1} → statement M
 write-file-spec =

@@ -1,5 +1,5 @@
--- `bump_of` is `bumpOf`, word for word. Assumes nothing.
-use Rattle.list_input.specs.Asked.{bumpOf}
+-- `bump_of` is `bump_of`, word for word. Assumes nothing.
+use Rattle.list_input.specs.Asked.{bump_of}
 use mathlib.Core.Path.{refl}
 use borrow.Author.Rules.{rules}
 use Rattle.list_input.proofs.asked.bump_of.Statement.{statement}
@@ -9,7 +9,7 @@ shared-slice-read-result : tie.Need-shared-slice-read-result
 shared-slice-read-result c = search rules
 
 returns : tie.Need-returns
-unfolding bumpOf
+unfolding bump_of
 returns c = refl
 
 pub bump-of-spec : {M : Type 1} → statement M

@@ -1,5 +1,5 @@
--- `settings_of` is `settingsOf`, field by field. Assumes nothing.
-use Rattle.list_input.specs.Asked.{settingsOf}
+-- `settings_of` is `settings_of`, field by field. Assumes nothing.
+use Rattle.list_input.specs.Asked.{settings_of}
 use mathlib.Core.Path.{refl}
 use borrow.Author.Rules.{rules}
 use Rattle.list_input.proofs.asked.settings_of.Statement.{statement}
@@ -21,7 +21,7 @@ shared-slice-read-t11 : tie.Need-shared-slice-read-t11
 shared-slice-read-t11 c = search rules
 
 returns : tie.Need-returns
-unfolding settingsOf
+unfolding settings_of
 returns c = refl
 
 pub settings-of-spec : {M : Type 1} → statement M

@@ -1,5 +1,5 @@
--- `split` takes the groups apart as `hashesOf` and `beginsOf` say: each turn keeps `Splitting`. Assumes nothing.
-use Rattle.list_input.specs.SplitLaws.{Splitting, split-start, hashes-most, hash-room, split-hash, begin-room, split-count, last-room, split-hashes, split-begins, split-keys}
+-- `split` takes the groups apart as `hashes_of` and `begins_of` say: each turn keeps `Splitting`. Assumes nothing.
+use Rattle.list_input.specs.SplitLaws.{Splitting, split_start, hashes_most, hash_room, split_hash, begin_room, split_count, last_room, split_hashes, split_begins, split_keys}
 use lib.ListN.{length}
 use native.Mathlib.Omega.{arith}
 use Prim.Native.Nat.{◌-◌}
@@ -13,7 +13,7 @@ abbrev decreases-loop : tie.decreases-loop
 decreases-loop ns hashes₀ begins₀ h₀ b₀ keys₀ i₀ hashes begins h b keys i = length ns - i
 
 loop-holds : tie.Need-loop-init invariant-loop decreases-loop
-loop-holds c = split-start _ _ _ c.requires.0 c.requires.1
+loop-holds c = split_start _ _ _ c.requires.0 c.requires.1
 
 mul-hashes : tie.Need-overflow-mul-hashes invariant-loop decreases-loop
 mul-hashes c = omega arith
@@ -22,13 +22,13 @@ shared-slice-read-hashes : tie.Need-shared-slice-read-hashes invariant-loop decr
 shared-slice-read-hashes c = omega arith
 
 mul-hashes-2 : tie.Need-overflow-mul-hashes-2 invariant-loop decreases-loop
-mul-hashes-2 c = omega (arith, hash-room c.before.before.before.loop.invariant c.before.before.loop-test.true c.before.if1.true)
+mul-hashes-2 c = omega (arith, hash_room c.before.before.before.loop.invariant c.before.before.loop-test.true c.before.if1.true)
 
 element-write-hashes : tie.Need-element-write-hashes invariant-loop decreases-loop
-element-write-hashes c = omega (arith, hash-room c.before.before.before.loop.invariant c.before.before.loop-test.true c.before.if1.true)
+element-write-hashes c = omega (arith, hash_room c.before.before.before.loop.invariant c.before.before.loop-test.true c.before.if1.true)
 
 add-h : tie.Need-overflow-add-h invariant-loop decreases-loop
-add-h c = omega (arith, hash-room c.before.before.before.loop.invariant c.before.before.loop-test.true c.before.if1.true)
+add-h c = omega (arith, hash_room c.before.before.before.loop.invariant c.before.before.loop-test.true c.before.if1.true)
 
 sub-keys : tie.Need-overflow-sub-keys invariant-loop decreases-loop
 sub-keys c = omega arith
@@ -40,19 +40,19 @@ loop-less : tie.Need-loop-smaller invariant-loop decreases-loop
 loop-less c = omega arith
 
 loop-again : tie.Need-loop-preserved invariant-loop decreases-loop
-loop-again c = split-hash c.before.before.before.loop.invariant c.before.before.loop-test.true c.before.if1.true
+loop-again c = split_hash c.before.before.before.loop.invariant c.before.before.loop-test.true c.before.if1.true
 
 cast-begins : tie.Need-overflow-cast-begins invariant-loop decreases-loop
-cast-begins c = omega (arith, hashes-most c.before.before.loop.invariant)
+cast-begins c = omega (arith, hashes_most c.before.before.loop.invariant)
 
 mul-begins : tie.Need-overflow-mul-begins invariant-loop decreases-loop
-mul-begins c = omega (arith, begin-room c.before.before.loop.invariant c.before.loop-test.true c.if1.false)
+mul-begins c = omega (arith, begin_room c.before.before.loop.invariant c.before.loop-test.true c.if1.false)
 
 element-write-begins : tie.Need-element-write-begins invariant-loop decreases-loop
-element-write-begins c = omega (arith, begin-room c.before.before.loop.invariant c.before.loop-test.true c.if1.false)
+element-write-begins c = omega (arith, begin_room c.before.before.loop.invariant c.before.loop-test.true c.if1.false)
 
 add-b : tie.Need-overflow-add-b invariant-loop decreases-loop
-add-b c = omega (arith, begin-room c.before.before.loop.invariant c.before.loop-test.true c.if1.false)
+add-b c = omega (arith, begin_room c.before.before.loop.invariant c.before.loop-test.true c.if1.false)
 
 mul-keys : tie.Need-overflow-mul-keys invariant-loop decreases-loop
 mul-keys c = omega arith
@@ -67,22 +67,22 @@ loop-less-2 : tie.Need-loop-smaller-2 invariant-loop decreases-loop
 loop-less-2 c = omega arith
 
 loop-again-2 : tie.Need-loop-preserved-2 invariant-loop decreases-loop
-loop-again-2 c = split-count c.before.before.before.loop.invariant c.before.before.loop-test.true c.before.if1.false
+loop-again-2 c = split_count c.before.before.before.loop.invariant c.before.before.loop-test.true c.before.if1.false
 
 cast-begins-2 : tie.Need-overflow-cast-begins-2 invariant-loop decreases-loop
-cast-begins-2 c = omega (arith, hashes-most c.before.loop.invariant)
+cast-begins-2 c = omega (arith, hashes_most c.before.loop.invariant)
 
 mul-begins-2 : tie.Need-overflow-mul-begins-2 invariant-loop decreases-loop
-mul-begins-2 c = omega (arith, last-room c.before.loop.invariant c.loop-test.false)
+mul-begins-2 c = omega (arith, last_room c.before.loop.invariant c.loop-test.false)
 
 element-write-begins-2 : tie.Need-element-write-begins-2 invariant-loop decreases-loop
-element-write-begins-2 c = omega (arith, last-room c.before.loop.invariant c.loop-test.false)
+element-write-begins-2 c = omega (arith, last_room c.before.loop.invariant c.loop-test.false)
 
 returns : tie.Need-returns invariant-loop decreases-loop
 returns c =
     let s = c.before.loop.invariant in
     let past = c.loop-test.false in
-    ((split-keys s past, hashes-most s), (split-hashes s past, split-begins s past))
+    ((split_keys s past, hashes_most s), (split_hashes s past, split_begins s past))
 
 pub split-spec : {M : Type 1} → statement M
 split-spec =

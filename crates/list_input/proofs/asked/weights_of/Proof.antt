@@ -1,5 +1,5 @@
 -- `weights_of` reads the seven weights one by one. Assumes nothing.
-use Rattle.list_input.specs.Asked.{weightsOf}
+use Rattle.list_input.specs.Asked.{weights_of}
 use mir.ValLaws.{to_z-of_z}
 use mir.Val.{SFits, to_z, of_z}
 use mir.Syntax.{w64}
@@ -60,7 +60,7 @@ weight-of-requires-7 : tie.Need-weight-of-requires-7
 weight-of-requires-7 c κs = search rules
 
 returns : tie.Need-returns
-unfolding weightsOf
+unfolding weights_of
 returns c =
     seven _ _ _ _ _ _ _ _ _ _ _ _ _ _
     (back _ _ (record { sfits = c.before.before.before.before.before.before.before.before.before.before.before.before.weight-of.type-inv }) c.before.before.before.before.before.before.before.before.before.before.before.before.weight-of.ensures)

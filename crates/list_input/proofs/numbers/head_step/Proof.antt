@@ -1,5 +1,5 @@
--- `head_step` is `headStep`, at the last number of the head and before it. Assumes nothing.
-use Rattle.list_input.specs.Scan.{headStep}
+-- `head_step` is `head_step`, at the last number of the head and before it. Assumes nothing.
+use Rattle.list_input.specs.Scan.{head_step}
 use borrow.Author.Tests.{ne_eqb, eq-eqb}
 use borrow.Author.Rules.{rules}
 use Rattle.list_input.proofs.numbers.head_step.Statement.{statement}
@@ -12,14 +12,14 @@ add-t6 : tie.Need-overflow-add-t6
 add-t6 c = search rules
 
 returns : tie.Need-returns
-unfolding headStep
+unfolding head_step
 returns c = simp (c.before.still-fine.ensures, eq-eqb _ _ c.if1.true)
 
 add-t7 : tie.Need-overflow-add-t7
 add-t7 c = search rules
 
 returns-2 : tie.Need-returns-2
-unfolding headStep
+unfolding head_step
 returns-2 c = simp (c.before.still-fine.ensures, ne_eqb _ _ c.if1.false)
 
 pub head-step-spec : {M : Type 1} → statement M

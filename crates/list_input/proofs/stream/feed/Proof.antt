@@ -1,7 +1,7 @@
--- `feed` takes bytes as `fedScan` and `fedNumbers` say: feeding the rest from the present state gives at each turn what feeding all of
+-- `feed` takes bytes as `fed_scan` and `fed_numbers` say: feeding the rest from the present state gives at each turn what feeding all of
 -- them gives. Assumes nothing.
-use Rattle.list_input.specs.ScanLaws.{fed-end, fed-step, numbers-end, numbers-step}
-use Rattle.list_input.specs.Scan.{fedScan, fedNumbers}
+use Rattle.list_input.specs.ScanLaws.{fed_end, fed_step, numbers_end, numbers_step}
+use Rattle.list_input.specs.Scan.{fed_scan, fed_numbers}
 use lib.ListN.{length, drop}
 use mathlib.Core.Path.{◌≡◌, refl, sym, ◌∙◌}
 use borrow.Author.Rules.{rules}
@@ -11,7 +11,7 @@ use Rattle.list_input.proofs.stream.feed.Statement.{statement}
 use Rattle.list_input.proofs.stream.feed.Tie as tie
 
 abbrev invariant-loop : tie.invariant-loop
-invariant-loop numbers₀ chunk now₀ i₀ numbers now i = (fedScan now (drop i chunk) ≡ fedScan now₀ chunk) × (fedNumbers now numbers (drop i chunk) ≡ fedNumbers now₀ numbers₀ chunk)
+invariant-loop numbers₀ chunk now₀ i₀ numbers now i = (fed_scan now (drop i chunk) ≡ fed_scan now₀ chunk) × (fed_numbers now numbers (drop i chunk) ≡ fed_numbers now₀ numbers₀ chunk)
 
 abbrev decreases-loop : tie.decreases-loop
 decreases-loop numbers₀ chunk now₀ i₀ numbers now i = length chunk - i
@@ -41,14 +41,14 @@ loop-again : tie.Need-loop-preserved invariant-loop decreases-loop
 loop-again c =
     let l = c.before.before.before.before.before.before.loop in
     let chunk = c.before.before.before.before.before.before.before.before.args.chunk.now in (
-      fed-step l.now chunk l.i c.before.before.before.before.before.loop-test.true _ c.before.before.before.grow.ensures _ c.scan_step.ensures ∙ l.invariant.0,
-      numbers-step l.now chunk l.i c.before.before.before.before.before.loop-test.true _ c.before.before.before.grow.ensures _ c.scan_step.ensures l.numbers _ c.before.store_step.ensures ∙ l.invariant.1,
+      fed_step l.now chunk l.i c.before.before.before.before.before.loop-test.true _ c.before.before.before.grow.ensures _ c.scan_step.ensures ∙ l.invariant.0,
+      numbers_step l.now chunk l.i c.before.before.before.before.before.loop-test.true _ c.before.before.before.grow.ensures _ c.scan_step.ensures l.numbers _ c.before.store_step.ensures ∙ l.invariant.1,
     )
 
 returns : tie.Need-returns invariant-loop decreases-loop
 returns c =
     let l = c.before.loop in
-    (sym (fed-end _ _ _ c.loop-test.false) ∙ l.invariant.0, sym (numbers-end _ _ _ _ c.loop-test.false) ∙ l.invariant.1)
+    (sym (fed_end _ _ _ c.loop-test.false) ∙ l.invariant.0, sym (numbers_end _ _ _ _ c.loop-test.false) ∙ l.invariant.1)
 
 pub feed-spec : {M : Type 1} → statement M
 feed-spec =

@@ -1,5 +1,5 @@
--- `scan_step` is `scanBy`, for each thing that a byte can make of a part. Assumes nothing.
-use Rattle.list_input.specs.Scan.{scanBy}
+-- `scan_step` is `scan_by`, for each thing that a byte can make of a part. Assumes nothing.
+use Rattle.list_input.specs.Scan.{scan_by}
 use borrow.Author.Rules.{rules}
 use Rattle.list_input.proofs.stream.scan_step.Statement.{statement}
 use Rattle.list_input.proofs.stream.scan_step.Tie as tie
@@ -23,15 +23,15 @@ broken-requires : tie.Need-broken-requires
 broken-requires c κs = search rules
 
 returns : tie.Need-returns
-unfolding scanBy
+unfolding scan_by
 returns c = simp c.before.before.grown.given.1
 
 returns-2 : tie.Need-returns-2
-unfolding scanBy
-returns-2 c = simp (c.before.before.before.grown2.given.1, c.before.form-step.ensures, c.count-one.ensures)
+unfolding scan_by
+returns-2 c = simp (c.before.before.before.grown2.given.1, c.before.form-step.ensures, c.count_one.ensures)
 
 returns-3 : tie.Need-returns-3
-unfolding scanBy
+unfolding scan_by
 returns-3 c = simp (c.before.enum_told.given.1, c.broken.ensures)
 
 pub scan-step-spec : {M : Type 1} → statement M

@@ -1,5 +1,5 @@
--- `store_step` is `storeBy`, for each thing that a byte can make of a part. Assumes nothing.
-use Rattle.list_input.specs.Scan.{storeBy}
+-- `store_step` is `store_by`, for each thing that a byte can make of a part. Assumes nothing.
+use Rattle.list_input.specs.Scan.{store_by}
 use borrow.Author.Tests.{lt-ltb, le-ltb}
 use borrow.Author.Rules.{rules}
 use Rattle.list_input.proofs.stream.store_step.Statement.{statement}
@@ -21,19 +21,19 @@ enum-told-2 : tie.Need-enum-told-2
 enum-told-2 c = search rules
 
 returns : tie.Need-returns
-unfolding storeBy
+unfolding store_by
 returns c = simp (c.before.before.grown.given.1, lt-ltb _ _ c.if1.true)
 
 returns-2 : tie.Need-returns-2
-unfolding storeBy
+unfolding store_by
 returns-2 c = simp (c.before.before.grown.given.1, le-ltb _ _ c.if1.false)
 
 returns-3 : tie.Need-returns-3
-unfolding storeBy
+unfolding store_by
 returns-3 c = simp c.enum_told.given.1
 
 returns-4 : tie.Need-returns-4
-unfolding storeBy
+unfolding store_by
 returns-4 c = simp c.enum-told2.given.1
 
 pub store-step-spec : {M : Type 1} → statement M

@@ -1,6 +1,6 @@
 -- `put` copies bytes one by one: each turn writes one piece more. Assumes nothing.
 use native.Mathlib.Nat.{add-zero}
-use Rattle.list_output.specs.Writing.{Writing, write-start, write-piece, write-text, write-end, rest-element, rest_end}
+use Rattle.list_output.specs.Writing.{Writing, write_start, write_piece, write_text, write_end, rest_element, rest_end}
 use lib.ListN.{length, get_or, drop}
 use mathlib.Core.List.{[], ◌∷◌}
 use mathlib.Core.Path.{refl}
@@ -16,7 +16,7 @@ abbrev decreases-loop : tie.decreases-loop
 decreases-loop out₀ at text i₀ out i = length text - i
 
 loop-holds : tie.Need-loop-init invariant-loop decreases-loop
-loop-holds c = (rw add-zero (write-start _ _ _), omega arith)
+loop-holds c = (rw add-zero (write_start _ _ _), omega arith)
 
 shared-slice-read-out : tie.Need-shared-slice-read-out invariant-loop decreases-loop
 shared-slice-read-out c = omega arith
@@ -37,7 +37,7 @@ loop-again : tie.Need-loop-preserved invariant-loop decreases-loop
 loop-again c =
     let l = c.before.before.loop in
     let a = c.before.before.before.args in
-    (write-piece l.invariant.0 (get_or a.text.now l.i 0 ∷ []) _ _ _ (rest-element a.text.now l.i c.before.loop-test.true) refl (omega arith), omega arith)
+    (write_piece l.invariant.0 (get_or a.text.now l.i 0 ∷ []) _ _ _ (rest_element a.text.now l.i c.before.loop-test.true) refl (omega arith), omega arith)
 
 add-result : tie.Need-overflow-add-result invariant-loop decreases-loop
 add-result c = omega arith
@@ -49,7 +49,7 @@ returns : tie.Need-returns invariant-loop decreases-loop
 returns c =
     let l = c.before.loop in
     let none = rest_end _ _ c.loop-test.false in
-    (write-end l.invariant.0 none, write-text l.invariant.0 none)
+    (write_end l.invariant.0 none, write_text l.invariant.0 none)
 
 pub put_spec : {M : Type 1} → statement M
 put_spec =

@@ -2,8 +2,8 @@
 use mathlib.Core.List.{[]}
 use lib.ListN.{set}
 use Rattle.list_output.specs.Text.{line}
-use Rattle.list_output.specs.Writing.{Writing, write-text, write-end}
-use Rattle.list_output.specs.TextLaws.{line-written}
+use Rattle.list_output.specs.Writing.{Writing, write_text, write_end}
+use Rattle.list_output.specs.TextLaws.{line_written}
 use mathlib.Core.Path.{refl}
 use native.Mathlib.Omega.{arith}
 use Prim.Native.Nat.{◌+◌}
@@ -17,7 +17,7 @@ written c =
     let a = c.before.before.before.before.before.before.before.before.before.before.before.args in
     let p = c.before.before.before.before.before.before.put in
     let f = c.before.before.put-fields in
-    line-written a.out.now a.at a.word.now a.numbers.now p.new.0 f.new.0 p.result f.result p.ensures.0 p.ensures.1 f.ensures.0.0 f.ensures.1
+    line_written a.out.now a.at a.word.now a.numbers.now p.new.0 f.new.0 p.result f.result p.ensures.0 p.ensures.1 f.ensures.0.0 f.ensures.1
 
 put-requires : tie.Need-put-requires
 put-requires c κs = search rules
@@ -36,7 +36,7 @@ same_length c = (written c).same
 
 returns : tie.Need-returns
 returns c =
-    ((write-end (written c) refl, omega (arith, c.before.before.before.before.before.before.put.ensures.0, c.before.before.put-fields.ensures.0.1)), write-text (written c) refl)
+    ((write_end (written c) refl, omega (arith, c.before.before.before.before.before.before.put.ensures.0, c.before.before.put-fields.ensures.0.1)), write_text (written c) refl)
 
 pub put-line-spec : {M : Type 1} → statement M
 put-line-spec =

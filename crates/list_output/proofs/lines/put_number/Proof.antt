@@ -1,6 +1,6 @@
 -- `put_number` writes a space and the digits of `io::decimal`, which are `decimal`'s. Assumes nothing.
-use Rattle.list_output.specs.Writing.{sets-after}
-use Rattle.list_output.specs.DecimalLaws.{decimal-most, digits_decimal}
+use Rattle.list_output.specs.Writing.{sets_after}
+use Rattle.list_output.specs.DecimalLaws.{decimal_most, digits_decimal}
 use Rattle.list_output.specs.Text.{decimal}
 use lib.ListN.{length, take, length-set}
 use mathlib.Core.Path.{◌≡◌, ap, ◌∙◌}
@@ -29,7 +29,7 @@ put-requires c κs =
     let a = c.before.before.before.before.before.args in
     let d = c.before.before.decimal in
     let e : take d.result d.new.1.0 ≡ decimal a.n = d.ensures.1.1 ∙ digits_decimal a.n d.result c.before.before.before.before.before.ranges.n.fits d.ensures.1.0 in
-    omega (arith, ap length e, decimal-most a.n, length-set a.out.now a.at 32)
+    omega (arith, ap length e, decimal_most a.n, length-set a.out.now a.at 32)
 
 same_length : tie.Need-same-length
 same_length c =
@@ -42,7 +42,7 @@ returns c =
     let d = c.before.before.before.before.before.decimal in
     let e : take d.result d.new.1.0 ≡ decimal a.n = d.ensures.1.1 ∙ digits_decimal a.n d.result c.before.before.before.before.before.before.before.before.ranges.n.fits d.ensures.1.0 in
     let p = c.before.before.put.ensures in
-    ((omega (arith, p.0, ap length e), omega (arith, p.0, ap length e, decimal-most a.n)), sets-after a.out.now a.at 32 _ _ _ p.1 e)
+    ((omega (arith, p.0, ap length e), omega (arith, p.0, ap length e, decimal_most a.n)), sets_after a.out.now a.at 32 _ _ _ p.1 e)
 
 pub put-number-spec : {M : Type 1} → statement M
 put-number-spec =

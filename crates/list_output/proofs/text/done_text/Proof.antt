@@ -1,8 +1,8 @@
 -- `done_text` writes the line of the sweep, those of the buckets and those of the holes. Assumes nothing.
-use Rattle.list_output.specs.Writing.{write-text, write-end}
-use Rattle.list_output.specs.TextLaws.{three-written}
-use Rattle.list_output.specs.Text.{bucketLine, holeLine, sweepLine, doneText}
-use Rattle.rules.specs.Lists.{below, concatMap}
+use Rattle.list_output.specs.Writing.{write_text, write_end}
+use Rattle.list_output.specs.TextLaws.{three_written}
+use Rattle.list_output.specs.Text.{bucket_line, hole_line, sweep_line, done_text}
+use Rattle.rules.specs.Lists.{below, concat_map}
 use lib.ListN.{length}
 use mathlib.Core.Path.{refl}
 use native.Mathlib.Omega.{arith}
@@ -23,18 +23,18 @@ same_length : tie.Need-same-length
 same_length c = search rules
 
 returns : tie.Need-returns
-unfolding doneText
+unfolding done_text
 returns c =
     let a = c.before.before.before.before.before.before.before.before.before.before.before.before.before.before.before.before.args in
     let s = c.before.before.before.before.before.before.before.before.before.before.sweep-line in
     let b = c.before.before.before.before.before.before.bucket-lines in
     let h = c.before.before.hole-lines in
     let w =
-    three-written a.out.now (sweepLine a.m (length a.seeds.now) a.keys a.counts (length a.holes.now))
-    (concatMap (bucketLine a.begins.now a.seeds.now) (below (length a.seeds.now))) (concatMap holeLine a.holes.now)
+    three_written a.out.now (sweep_line a.m (length a.seeds.now) a.keys a.counts (length a.holes.now))
+    (concat_map (bucket_line a.begins.now a.seeds.now) (below (length a.seeds.now))) (concat_map hole_line a.holes.now)
     s.new.1.1.1.1.1.0 b.new.0 h.new.0 s.result b.result h.result
     s.ensures.0.0 s.ensures.1 b.ensures.0.0 b.ensures.1 h.ensures.0.0 h.ensures.1 in
-    ((omega (arith, write-end w refl), omega (arith, s.ensures.0.1, b.ensures.0.1, h.ensures.0.1)), write-text w refl)
+    ((omega (arith, write_end w refl), omega (arith, s.ensures.0.1, b.ensures.0.1, h.ensures.0.1)), write_text w refl)
 
 pub done-text-spec : {M : Type 1} → statement M
 done-text-spec =

@@ -1,5 +1,5 @@
 -- `hole_line` is one line of one number. Assumes nothing.
-use Rattle.list_output.specs.Text.{holeLine}
+use Rattle.list_output.specs.Text.{hole_line}
 use native.Mathlib.Omega.{arith}
 use borrow.Author.Rules.{rules}
 use Rattle.list_output.proofs.text.hole_line.Statement.{statement}
@@ -18,7 +18,7 @@ same_length : tie.Need-same-length
 same_length c = search rules
 
 returns : tie.Need-returns
-unfolding holeLine
+unfolding hole_line
 returns c =
     let p = c.before.before.put-line.ensures in
     ((p.0.0, omega (arith, p.0.1)), p.1)

@@ -1,8 +1,8 @@
 -- `hole_lines` writes a line at each turn. Assumes nothing.
-use Rattle.list_output.specs.Writing.{Writing, write-start, write-piece, write-text, write-end}
-use Rattle.list_output.specs.TextLaws.{lines-element, lines_end}
-use Rattle.list_output.specs.Text.{holeLine}
-use Rattle.rules.specs.Lists.{concatMap}
+use Rattle.list_output.specs.Writing.{Writing, write_start, write_piece, write_text, write_end}
+use Rattle.list_output.specs.TextLaws.{lines_element, lines_end}
+use Rattle.list_output.specs.Text.{hole_line}
+use Rattle.rules.specs.Lists.{concat_map}
 use lib.Seq.{sets}
 use lib.ListN.{length, get_or, drop}
 use mathlib.Core.List.{List}
@@ -14,13 +14,13 @@ use Rattle.list_output.proofs.text.hole_lines.Statement.{statement}
 use Rattle.list_output.proofs.text.hole_lines.Tie as tie
 
 abbrev invariant-loop : tie.invariant-loop
-invariant-loop out₀ at holes place₀ i₀ out place i = (Writing out₀ at (concatMap holeLine holes) out place (concatMap holeLine (drop i holes))) × (i ≤ length holes) × (place ≤ at + 26 * i)
+invariant-loop out₀ at holes place₀ i₀ out place i = (Writing out₀ at (concat_map hole_line holes) out place (concat_map hole_line (drop i holes))) × (i ≤ length holes) × (place ≤ at + 26 * i)
 
 abbrev decreases-loop : tie.decreases-loop
 decreases-loop out₀ at holes place₀ i₀ out place i = length holes - i
 
 loop-holds : tie.Need-loop-init invariant-loop decreases-loop
-loop-holds c = (write-start _ _ _, omega arith, omega arith)
+loop-holds c = (write_start _ _ _, omega arith, omega arith)
 
 mul-wide32 : tie.Need-overflow-mul-wide32 invariant-loop decreases-loop
 mul-wide32 c = omega arith
@@ -45,8 +45,8 @@ loop-again c =
     let l = c.before.before.before.before.before.before.before.loop in
     let holes = c.before.before.before.before.before.before.before.before.before.before.args.holes.now in
     let p = c.before.before.hole-line.ensures in
-    let e = ap holeLine c.before.before.before.wide32.ensures in (
-      write-piece l.invariant.0 (holeLine (get_or holes l.i 0)) _ _ _ (lines-element holeLine holes l.i c.before.before.before.before.before.before.loop-test.true)
+    let e = ap hole_line c.before.before.before.wide32.ensures in (
+      write_piece l.invariant.0 (hole_line (get_or holes l.i 0)) _ _ _ (lines_element hole_line holes l.i c.before.before.before.before.before.before.loop-test.true)
           (p.1 ∙ ap (sets l.out l.place) e) (p.0.0 ∙ ap (λ (t : List ℕ). l.place + length t) e),
       omega arith,
       omega (arith, p.0.1),
@@ -59,7 +59,7 @@ returns : tie.Need-returns invariant-loop decreases-loop
 returns c =
     let l = c.before.loop in
     let none = lines_end _ _ _ c.loop-test.false in
-    ((write-end l.invariant.0 none, omega arith), write-text l.invariant.0 none)
+    ((write_end l.invariant.0 none, omega arith), write_text l.invariant.0 none)
 
 pub hole-lines-spec : {M : Type 1} → statement M
 hole-lines-spec =

@@ -1,5 +1,5 @@
 -- `refused_text` writes the number, and the bucket where one is named. Assumes nothing.
-use Rattle.list_output.specs.TextLaws.{refused-bucket, refused-plain}
+use Rattle.list_output.specs.TextLaws.{refused_bucket, refused_plain}
 use lib.Seq.{sets}
 use lib.ListN.{length}
 use mathlib.Core.Path.{ap, ◌∙◌}
@@ -39,7 +39,7 @@ returns : tie.Need-returns
 returns c =
     let a = c.before.before.before.before.before.before.before.before.before.before.args in
     let p = c.before.before.put-line.ensures in
-    let e = refused-bucket a.number _ a.named c.before.before.before.before.before.before.before.named.given.1 in
+    let e = refused_bucket a.number _ a.named c.before.before.before.before.before.before.before.named.given.1 in
     ((omega (arith, p.0.0, ap length e), omega (arith, p.0.1)), p.1 ∙ ap (sets a.out.now 0) e)
 
 same-length-2 : tie.Need-same-length-2
@@ -49,7 +49,7 @@ returns-2 : tie.Need-returns-2
 returns-2 c =
     let a = c.before.before.before.before.before.before.before.before.before.args in
     let p = c.before.before.put-line2.ensures in
-    let e = refused-plain a.number a.named c.before.before.before.before.before.before.enum_told.given.1 in
+    let e = refused_plain a.number a.named c.before.before.before.before.before.before.enum_told.given.1 in
     ((omega (arith, p.0.0, ap length e), omega (arith, p.0.1)), p.1 ∙ ap (sets a.out.now 0) e)
 
 pub refused-text-spec : {M : Type 1} → statement M

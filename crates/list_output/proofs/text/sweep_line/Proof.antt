@@ -1,5 +1,5 @@
 -- `sweep_line` is one line of seven numbers. Assumes nothing.
-use Rattle.list_output.specs.Text.{sweepLine}
+use Rattle.list_output.specs.Text.{sweep_line}
 use native.Mathlib.Omega.{arith}
 use borrow.Author.Rules.{rules}
 use Rattle.list_output.proofs.text.sweep_line.Statement.{statement}
@@ -18,7 +18,7 @@ same_length : tie.Need-same-length
 same_length c = search rules
 
 returns : tie.Need-returns
-unfolding sweepLine
+unfolding sweep_line
 returns c =
     let p = c.before.before.put-line.ensures in
     ((omega (arith, p.0.0), omega (arith, p.0.1)), p.1)

@@ -1,4 +1,4 @@
--- `listed` prints the sweep with the holes of its bitmap: the hole list is never refused here, and its front is `holesOf`.
+-- `listed` prints the sweep with the holes of its bitmap: the hole list is never refused here, and its front is `holes_of`.
 -- Assumes nothing.
 use lib.Seq.{sets}
 use lib.ListN.{length, take}
@@ -6,10 +6,10 @@ use lib.Seq.{length-take-le}
 use Prim.Native.Nat.{ℕ, ◌≤◌}
 use native.Mathlib.Omega.{arith}
 use mathlib.Core.Path.{◌≡◌, refl, sym, ap, ◌∙◌}
-use Rattle.list_output.specs.Text.{doneText}
+use Rattle.list_output.specs.Text.{done_text}
 use Rattle.rules.specs.declared.Listed.TheVariants as Hole
-use Rattle.rules.specs.Holes.{holesOf}
-use Rattle.listing.proofs.PrintLaws.{holes-fit, holes-count, holes-never, holes-front}
+use Rattle.rules.specs.Holes.{holes_of}
+use Rattle.listing.proofs.PrintLaws.{holes_fit, holes_count, holes_never, holes_front}
 use borrow.Author.Rules.{rules}
 use Rattle.listing.proofs.printing.listed.Statement.{statement}
 use Rattle.listing.proofs.printing.listed.Tie as tie
@@ -25,23 +25,23 @@ module _ (d : tie.After-holes) where
   room = d.holes.auto.1.1.0
 
   module _ (n : ℕ) (e : d.holes.result ≡ Hole.Holes n) where
-    count : n ≡ length (holesOf d.before.before.before.before.before.before.args.m d.before.before.before.before.before.before.args.bitmap.now)
+    count : n ≡ length (holes_of d.before.before.before.before.before.before.args.m d.before.before.before.before.before.before.args.bitmap.now)
     count =
         let p = d.before.before.before.before.before.before.pre.0 in
-        holes-count _ _ _ p.0 p.1 p.2 refl d.holes.result n d.holes.ensures.0 e
+        holes_count _ _ _ p.0 p.1 p.2 refl d.holes.result n d.holes.ensures.0 e
 
     few : n ≤ 1024
     few =
         let p = d.before.before.before.before.before.before.pre.0 in
-        omega (arith, count, holes-fit d.before.before.before.before.before.before.args.m d.before.before.before.before.before.before.args.bitmap.now p.1)
+        omega (arith, count, holes_fit d.before.before.before.before.before.before.args.m d.before.before.before.before.before.before.args.bitmap.now p.1)
 
-    front : take n d.holes.last.1.1.0 ≡ holesOf d.before.before.before.before.before.before.args.m d.before.before.before.before.before.before.args.bitmap.now
+    front : take n d.holes.last.1.1.0 ≡ holes_of d.before.before.before.before.before.before.args.m d.before.before.before.before.before.before.args.bitmap.now
     front =
         let p = d.before.before.before.before.before.before.pre.0 in
-        holes-front _ _ _ p.0 p.1 p.2 refl _ n d.holes.ensures.1 count
+        holes_front _ _ _ p.0 p.1 p.2 refl _ n d.holes.ensures.1 count
 
-    front-few : length (take n d.holes.last.1.1.0) ≤ 1024
-    front-few = omega (arith, ap length front, count, few)
+    front_few : length (take n d.holes.last.1.1.0) ≤ 1024
+    front_few = omega (arith, ap length front, count, few)
 
 -- src/printing.rt:47:28
 slice-aggregate-holes : tie.Need-slice-aggregate-holes
@@ -65,7 +65,7 @@ slice-aggregate-done-text c = sym (length-take-le _ _ (omega (arith, room c.befo
 
 -- src/printing.rt:50:13
 done-text-requires : tie.Need-done-text-requires
-done-text-requires c κs = (omega (arith, c.before.before.before.before.before.before.before.before.before.before.before.before.requires.0, front-few c.before.before.before.before.before.before _ c.before.before.before.n.given.1), c.before.before.before.before.before.before.before.before.before.before.before.before.requires.1)
+done-text-requires c κs = (omega (arith, c.before.before.before.before.before.before.before.before.before.before.before.before.requires.0, front_few c.before.before.before.before.before.before _ c.before.before.before.n.given.1), c.before.before.before.before.before.before.before.before.before.before.before.before.requires.1)
 
 -- src/printing.rt:53:25
 enum-known-n-2 : tie.Need-enum-known-n-2
@@ -84,8 +84,8 @@ returns : tie.Need-returns
 returns c =
     let a = c.before.before.before.before.before.before.before.before.before.before.before.before.before.before.before.args in
     let p = c.before.before.done-text.ensures in
-    let e = ap (doneText a.m a.keys a.counts a.begins.now a.seeds.now) (front c.before.before.before.before.before.before.before.before.before _ c.before.before.before.before.before.before.n.given.1) in
-    ((p.0.0 ∙ ap length e, omega (arith, c.before.before.before.before.before.before.before.before.before.before.before.before.before.before.before.requires.0, p.0.1, front-few c.before.before.before.before.before.before.before.before.before _ c.before.before.before.before.before.before.n.given.1)), p.1 ∙ ap (sets a.out.now 0) e)
+    let e = ap (done_text a.m a.keys a.counts a.begins.now a.seeds.now) (front c.before.before.before.before.before.before.before.before.before _ c.before.before.before.before.before.before.n.given.1) in
+    ((p.0.0 ∙ ap length e, omega (arith, c.before.before.before.before.before.before.before.before.before.before.before.before.before.before.before.requires.0, p.0.1, front_few c.before.before.before.before.before.before.before.before.before _ c.before.before.before.before.before.before.n.given.1)), p.1 ∙ ap (sets a.out.now 0) e)
 
 -- src/printing.rt:32:1
 same-length-2 : tie.Need-same-length-2
@@ -95,7 +95,7 @@ same-length-2 c = search rules
 returns-2 : tie.Need-returns-2
 returns-2 c =
     let p = c.before.before.before.before.before.before.before.before.before.before.before.before.before.before.requires.0 in
-    absurd (holes-never _ _ _ p.0 p.1 p.2 refl c.before.before.before.before.before.before.before.before.holes.result _ c.before.before.before.before.before.before.before.before.holes.ensures.0 c.before.before.before.before.before.n2.given.1)
+    absurd (holes_never _ _ _ p.0 p.1 p.2 refl c.before.before.before.before.before.before.before.before.holes.result _ c.before.before.before.before.before.before.before.before.holes.ensures.0 c.before.before.before.before.before.n2.given.1)
 
 pub listed-spec : {M : Type 1} → statement M
 listed-spec =

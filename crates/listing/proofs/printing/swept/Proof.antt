@@ -10,7 +10,7 @@ use Rattle.rules.specs.Order.{Input, input_of}
 use Rattle.rules.specs.declared.Outcome.TheVariants as Ended
 use Rattle.rules.specs.declared.Counts.{Counts}
 use Rattle.listing.specs.Listing.{lent_by}
-use Rattle.listing.proofs.PrintLaws.{Swept, lent_same, swept-refused, swept-done, swept-text}
+use Rattle.listing.proofs.PrintLaws.{Swept, lent_same, swept_refused, swept_done, swept_text_lem}
 use borrow.Author.Rules.{rules}
 use Rattle.listing.proofs.printing.swept.Statement.{statement}
 use Rattle.listing.proofs.printing.swept.Tie as tie
@@ -34,7 +34,7 @@ module _ (d : tie.After-sweep) where
 
   swept_at : (counts : Counts) → d.sweep.result.outcome ≡ Ended.Done counts
       → Swept d.before.before.before.before.before.before.before.before.before.before.before.args.bump input counts d.sweep.last.1.1.1.1.1.1.0 d.sweep.last.1.1.1.1.1.1.1.0
-  swept_at counts e = swept-done _ input _ lent d.sweep.result d.sweep.ensures.0 counts _ _ _ _ e d.sweep.ensures.1.0 d.sweep.ensures.1.1.0
+  swept_at counts e = swept_done _ input _ lent d.sweep.result d.sweep.ensures.0 counts _ _ _ _ e d.sweep.ensures.1.0 d.sweep.ensures.1.1.0
 
 -- src/printing.rt:76:9
 sweep-requires : tie.Need-sweep-requires
@@ -57,7 +57,7 @@ listed-requires : tie.Need-listed-requires
 listed-requires c κs =
     let p = c.before.before.before.before.before.before.before.before.before.before.before.before.before.before.before.before.before.before.before.before.before.before.before.requires in
     let k : length c.before.before.before.before.before.before.before.before.before.before.before.before.sweep.new.1.1.1.1.1.1.0 ≡ c.before.before.before.before.before.before.before.before.before.before.before.before.before.before.before.before.before.before.before.before.before.before.before.args.settings.buckets = c.before.before.before.before.before.before.before.before.before.before.before.before.sweep.auto.1.1.1.1.1.1.0 ∙ p.1.0.0 in (
-      ((swept_at c.before.before.before.before.before.before.before.before.before.before.before.before _ c.before.before.before.before.outcome2.given.1).m-low, p.0.0, c.before.before.before.before.before.before.before.before.before.before.before.before.sweep.auto.1.1.1.1.1.1.1.0 ∙ p.1.0.1, omega (arith, k, p.0.1), p.0.2),
+      ((swept_at c.before.before.before.before.before.before.before.before.before.before.before.before _ c.before.before.before.before.outcome2.given.1).m_low, p.0.0, c.before.before.before.before.before.before.before.before.before.before.before.before.sweep.auto.1.1.1.1.1.1.1.0 ∙ p.1.0.1, omega (arith, k, p.0.1), p.0.2),
       λ b h. p.1.1 b (omega (arith, k, h)),
     )
 
@@ -81,7 +81,7 @@ same-length-4 c = search rules
 returns : tie.Need-returns
 returns c =
     let p = c.before.before.refused-text.ensures in
-    let e = sym (swept-refused c.before.before.before.before.before.before.before.before.before.before.before.before.before.before.before.before.before.before.before.before.before.before.before.before.args.bump (input c.before.before.before.before.before.before.before.before.before.before.before.before.before) _ (lent c.before.before.before.before.before.before.before.before.before.before.before.before.before) c.before.before.before.before.before.before.before.before.before.before.before.before.before.sweep.result c.before.before.before.before.before.before.before.before.before.before.before.before.before.sweep.ensures.0 _ _ c.before.before.before.before.before.outcome.given.1) in
+    let e = sym (swept_refused c.before.before.before.before.before.before.before.before.before.before.before.before.before.before.before.before.before.before.before.before.before.before.before.before.args.bump (input c.before.before.before.before.before.before.before.before.before.before.before.before.before) _ (lent c.before.before.before.before.before.before.before.before.before.before.before.before.before) c.before.before.before.before.before.before.before.before.before.before.before.before.before.sweep.result c.before.before.before.before.before.before.before.before.before.before.before.before.before.sweep.ensures.0 _ _ c.before.before.before.before.before.outcome.given.1) in
     ((p.0.0 ∙ ap length e, omega (arith, p.0.1)), p.1 ∙ ap (sets c.before.before.before.before.before.before.before.before.before.before.before.before.before.before.before.before.before.before.before.before.before.before.before.before.args.out.now 0) e)
 
 -- src/printing.rt:58:1
@@ -104,7 +104,7 @@ same-length-8 c = search rules
 returns-2 : tie.Need-returns-2
 returns-2 c =
     let p = c.before.before.listed.ensures in
-    let e = sym (swept-text c.before.before.before.before.before.before.before.before.before.before.before.before.before.before.before.before.before.before.before.before.before.before.before.before.before.before.args.bump (input c.before.before.before.before.before.before.before.before.before.before.before.before.before.before.before) _ _ _ (swept_at c.before.before.before.before.before.before.before.before.before.before.before.before.before.before.before _ c.before.before.before.before.before.before.before.outcome2.given.1)) in
+    let e = sym (swept_text_lem c.before.before.before.before.before.before.before.before.before.before.before.before.before.before.before.before.before.before.before.before.before.before.before.before.before.before.args.bump (input c.before.before.before.before.before.before.before.before.before.before.before.before.before.before.before) _ _ _ (swept_at c.before.before.before.before.before.before.before.before.before.before.before.before.before.before.before _ c.before.before.before.before.before.before.before.outcome2.given.1)) in
     ((p.0.0 ∙ ap length e, p.0.1), p.1 ∙ ap (sets c.before.before.before.before.before.before.before.before.before.before.before.before.before.before.before.before.before.before.before.before.before.before.before.before.before.before.args.out.now 0) e)
 
 pub swept-spec : {M : Type 1} → statement M

@@ -8,7 +8,7 @@ use native.Mathlib.Omega.{arith}
 use mathlib.Core.List.{List}
 use mathlib.Core.Path.{◌≡◌, refl, sym, ap, ◌∙◌}
 use Rattle.rules.specs.Order.{input_of}
-use Rattle.listing.specs.Listing.{sweptText}
+use Rattle.listing.specs.Listing.{swept_text}
 use borrow.Author.Rules.{rules}
 use Rattle.listing.proofs.printing.swept_alone.Statement.{statement}
 use Rattle.listing.proofs.printing.swept_alone.Tie as tie
@@ -64,7 +64,7 @@ returns : tie.Need-returns
 returns c =
     let a = c.before.before.before.before.before.before.before.before.before.before.before.before.before.before.before.args in
     let p = c.before.before.before.before.before.swept.ensures in
-    let e = ap (λ (t : List ℕ). sweptText a.bump (input_of a.settings a.weights a.hashes.now a.begins.now t)) c.before.before.before.before.before.before.before.before.before.before.before.house.ensures.0 in
+    let e = ap (λ (t : List ℕ). swept_text a.bump (input_of a.settings a.weights a.hashes.now a.begins.now t)) c.before.before.before.before.before.before.before.before.before.before.before.house.ensures.0 in
     ((p.0.0 ∙ ap length e, p.0.1), p.1 ∙ ap (sets a.out.now 0) e)
 
 pub swept-alone-spec : {M : Type 1} → statement M

@@ -4,7 +4,7 @@ use mathlib.Core.Path.{ap, ◌∙◌}
 use native.Mathlib.Omega.{arith}
 use lib.Count.{count_leading_zeros}
 use Rattle.log_table.specs.Logs.{squares}
-use Rattle.log_table.proofs.Entries.{Left, left-start, left-small, left_step, left_end, Begun, begun}
+use Rattle.log_table.proofs.Entries.{Left, left_start, left_small, left_step, left_end, Begun, begun}
 use Rattle.log_table.proofs.making.log_entry.Statement.{statement}
 use Rattle.log_table.proofs.making.log_entry.Tie as tie
 
@@ -30,10 +30,10 @@ cast-t8 : tie.Need-overflow-cast-t8 invariant-loop decreases-loop
 cast-t8 c = omega (arith, (start c).short)
 
 loop-holds : tie.Need-loop-init invariant-loop decreases-loop
-loop-holds c = left-start _ _ _ (omega arith) (omega arith)
+loop-holds c = left_start _ _ _ (omega arith) (omega arith)
 
 squared-requires : tie.Need-squared-requires invariant-loop decreases-loop
-squared-requires c κs = omega (arith, left-small _ _ _ _ c.before.loop.invariant)
+squared-requires c κs = omega (arith, left_small _ _ _ _ c.before.loop.invariant)
 
 sub-n : tie.Need-overflow-sub-n invariant-loop decreases-loop
 sub-n c = omega arith
@@ -45,10 +45,10 @@ loop-again : tie.Need-loop-preserved invariant-loop decreases-loop
 loop-again c = left_step _ _ _ _ _ _ (omega arith) c.squared.ensures.0 c.squared.ensures.1 c.before.before.loop.invariant
 
 add-result : tie.Need-overflow-add-result invariant-loop decreases-loop
-add-result c = omega (arith, left-small _ _ _ _ c.before.before.loop.invariant)
+add-result c = omega (arith, left_small _ _ _ _ c.before.before.loop.invariant)
 
 cast-result-2 : tie.Need-overflow-cast-result-2 invariant-loop decreases-loop
-cast-result-2 c = omega (arith, left-small _ _ _ _ c.before.before.loop.invariant)
+cast-result-2 c = omega (arith, left_small _ _ _ _ c.before.before.loop.invariant)
 
 returns : tie.Need-returns invariant-loop decreases-loop
 returns c =

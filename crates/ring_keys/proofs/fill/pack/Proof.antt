@@ -5,9 +5,9 @@ use native.Mathlib.Omega.{arith}
 use native.Mathlib.Nat.{mod-le}
 use lib.Bits.{bit_and}
 use borrow.Author.Rules.{rules}
-use Rattle.words.specs.ShiftLaws.{one-shl-pos}
+use Rattle.words.specs.ShiftLaws.{one_shl_pos}
 use Rattle.ring_keys.specs.RingKey.{packed}
-use Rattle.ring_keys.specs.FillLaws.{column-code, pack-code}
+use Rattle.ring_keys.specs.FillLaws.{column_code, pack_code}
 use Rattle.ring_keys.proofs.fill.pack.Statement.{statement}
 use Rattle.ring_keys.proofs.fill.pack.Tie as tie
 
@@ -15,20 +15,20 @@ use Rattle.ring_keys.proofs.fill.pack.Tie as tie
 abbrev column : tie.Start → ℕ
 column c = bit_and c.args.o (1 * 2 ^ c.args.t % 2 ^ 64 - 1)
 
-column-is : (c : tie.Start) → column c ≡ c.args.o % 2 ^ c.args.t
-column-is c = column-code c.args.t c.args.o (omega arith)
+column_is : (c : tie.Start) → column c ≡ c.args.o % 2 ^ c.args.t
+column_is c = column_code c.args.t c.args.o (omega arith)
 
 packs : (c : tie.Start) → (column c ≤ c.args.o) × ((c.args.base + column c) * 2 ^ 32 % 2 ^ 64 + (c.args.o - column c) ≡ packed c.args.t c.args.base c.args.o)
-packs c = pack-code c.args.t c.args.base c.args.o (column c) (omega arith) (omega arith) (column-is c)
+packs c = pack_code c.args.t c.args.base c.args.o (column c) (omega arith) (omega arith) (column_is c)
 
 shl-column : tie.Need-overflow-shl-column
 shl-column c = search rules
 
 sub-column : tie.Need-overflow-sub-column
-sub-column c = one-shl-pos 64 c.args.t (omega arith)
+sub-column c = one_shl_pos 64 c.args.t (omega arith)
 
 add-result : tie.Need-overflow-add-result
-add-result c = omega (arith, column-is c, mod-le c.args.o (2 ^ c.args.t))
+add-result c = omega (arith, column_is c, mod-le c.args.o (2 ^ c.args.t))
 
 sub-result : tie.Need-overflow-sub-result
 sub-result c = omega (arith, (packs c).0)

@@ -2,7 +2,7 @@
 use native.Mathlib.Omega.{arith}
 use borrow.Author.Rules.{rules}
 use Rattle.rings.specs.RingLaws.{n_pos}
-use Rattle.ring_keys.specs.GatherLaws.{row-added}
+use Rattle.ring_keys.specs.GatherLaws.{row_added}
 use Rattle.ring_keys.proofs.gather.add_row.Statement.{statement}
 use Rattle.ring_keys.proofs.gather.add_row.Tie as tie
 
@@ -27,7 +27,7 @@ same_length : tie.Need-same-length
 same_length c = search rules
 
 returns : tie.Need-returns
-returns c = row-added c.before.key_row.ensures
+returns c = row_added c.before.key_row.ensures
 
 pub add-row-spec : {M : Type 1} → statement M
 add-row-spec =

@@ -1,6 +1,6 @@
 -- `add_row_64` joins the key's row to the word, and stores nothing else.
 use borrow.Author.Rules.{rules}
-use Rattle.ring_keys.specs.GatherLaws.{row-added}
+use Rattle.ring_keys.specs.GatherLaws.{row_added}
 use Rattle.ring_keys.proofs.gather.add_row_64.Statement.{statement}
 use Rattle.ring_keys.proofs.gather.add_row_64.Tie as tie
 
@@ -25,7 +25,7 @@ same_length : tie.Need-same-length
 same_length c = search rules
 
 returns : tie.Need-returns
-returns c = row-added c.before.key-row-64.ensures
+returns c = row_added c.before.key_row_64.ensures
 
 pub add-row-64-spec : {M : Type 1} → statement M
 add-row-64-spec =

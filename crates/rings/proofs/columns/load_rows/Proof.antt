@@ -5,8 +5,8 @@ use native.Mathlib.Omega.{arith}
 use borrow.Author.Rules.{rules}
 use lib.Pow.{pow_mono}
 use Rattle.words.specs.ShiftLaws.{one_shl}
-use Rattle.rings.specs.Columns.{noneUsed, Loaded}
-use Rattle.rings.specs.ColumnLaws.{loaded-none, loaded-more, rows_empty}
+use Rattle.rings.specs.Columns.{none_used, Loaded}
+use Rattle.rings.specs.ColumnLaws.{loaded_none, loaded_more, rows_empty}
 use Rattle.rings.proofs.columns.load_rows.Statement.{statement}
 use Rattle.rings.proofs.columns.load_rows.Tie as tie
 
@@ -30,7 +30,7 @@ none-used-requires : tie.Need-none-used-requires invariant-loop decreases-loop
 none-used-requires c κs = let s = c.before.before in omega (arith, stride s.args.t s.requires.0)
 
 loop-holds : tie.Need-loop-init invariant-loop decreases-loop
-loop-holds c = (omega arith, loaded-none _ _ _ _ _)
+loop-holds c = (omega arith, loaded_none _ _ _ _ _)
 
 mul-column-word : tie.Need-overflow-mul-column-word invariant-loop decreases-loop
 mul-column-word c = search rules
@@ -44,7 +44,7 @@ column-word-requires c κs =
     let n = stride s.args.t s.requires.0 in (
       (s.requires.0, omega (arith, n)),
       λ e. rows_empty s.args.t s.args.bitmap.now s.args.from c.before.loop.i (omega (arith, n))
-          (ap (λ (x : ℕ). noneUsed s.args.bitmap.now (s.args.from * 64) ((s.args.from + x) * 64)) (sym n.0) ∙ sym c.before.before.none-used.ensures ∙ e),
+          (ap (λ (x : ℕ). none_used s.args.bitmap.now (s.args.from * 64) ((s.args.from + x) * 64)) (sym n.0) ∙ sym c.before.before.none-used.ensures ∙ e),
     )
 
 add-work : tie.Need-overflow-add-work invariant-loop decreases-loop
@@ -65,7 +65,7 @@ loop-less c = search rules
 loop-again : tie.Need-loop-preserved invariant-loop decreases-loop
 loop-again c =
     let s = c.before.before.before.before.before.before in
-    (omega arith, loaded-more c.before.before.loop.invariant.1 (omega (arith, stride s.args.t s.requires.0)) c.column-word.ensures)
+    (omega arith, loaded_more c.before.before.loop.invariant.1 (omega (arith, stride s.args.t s.requires.0)) c.column-word.ensures)
 
 same_length : tie.Need-same-length invariant-loop decreases-loop
 same_length c = c.before.loop.invariant.1.len

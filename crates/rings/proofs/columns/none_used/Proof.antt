@@ -5,13 +5,13 @@ use native.Mathlib.Omega.{arith}
 use lib.Dec.{eqb}
 use lib.ListN.{length}
 use borrow.Author.Rules.{rules}
-use Rattle.rings.specs.Columns.{noneUsed}
-use Rattle.rings.specs.ColumnLaws.{none-past, none-cut}
+use Rattle.rings.specs.Columns.{none_used}
+use Rattle.rings.specs.ColumnLaws.{none_past, none_cut}
 use Rattle.rings.proofs.columns.none_used.Statement.{statement}
 use Rattle.rings.proofs.columns.none_used.Tie as tie
 
 returns : tie.Need-returns
-returns c = sym (none-past _ _ _ (omega arith) (omega arith))
+returns c = sym (none_past _ _ _ (omega arith) (omega arith))
 
 mul-next-set : tie.Need-overflow-mul-next-set
 mul-next-set c = search rules
@@ -26,12 +26,12 @@ mul-result : tie.Need-overflow-mul-result
 mul-result c = search rules
 
 returns-2 : tie.Need-returns-2
-unfolding noneUsed
+unfolding none_used
 returns-2 c =
     let s = c.before.before.before.before in
     let len = length s.args.bitmap.now in
     ap (λ (x : ℕ). eqb x (len * 64)) c.next-set.ensures.0
-    ∙ none-cut s.args.bitmap.now (s.args.from * 64) (len * 64) (s.args.to * 64) (omega arith) (omega arith) (omega arith)
+    ∙ none_cut s.args.bitmap.now (s.args.from * 64) (len * 64) (s.args.to * 64) (omega arith) (omega arith) (omega arith)
 
 mul-next-set-3 : tie.Need-overflow-mul-next-set-3
 mul-next-set-3 c = search rules
@@ -46,7 +46,7 @@ mul-result-2 : tie.Need-overflow-mul-result-2
 mul-result-2 c = search rules
 
 returns-3 : tie.Need-returns-3
-unfolding noneUsed
+unfolding none_used
 returns-3 c = ap (λ (x : ℕ). eqb x (c.before.before.before.before.args.to * 64)) c.next-set2.ensures.0
 
 pub none-used-spec : {M : Type 1} → statement M

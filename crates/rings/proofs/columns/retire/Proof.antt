@@ -3,8 +3,8 @@ use mathlib.Core.Path.{refl}
 use native.Mathlib.Omega.{arith}
 use lib.Pow.{shr_le}
 use borrow.Author.Rules.{rules}
-use Rattle.rings.specs.ColumnLaws.{column-lt, column-code, column-above}
-use Rattle.rings.specs.CacheLaws.{next-slot, caches-next}
+use Rattle.rings.specs.ColumnLaws.{column_lt, column_code, column_above}
+use Rattle.rings.specs.CacheLaws.{next_slot, caches_next}
 use Rattle.rings.proofs.columns.retire.Statement.{statement}
 use Rattle.rings.proofs.columns.retire.Tie as tie
 
@@ -20,7 +20,7 @@ add-c c = let s = c.before.before.before.before in omega (arith, shr_le s.args.f
 load-column-requires : tie.Need-load-column-requires
 load-column-requires c κs =
     let s = c.before.before.before.before.before in
-    (s.requires.0, (s.requires.1.0.0, omega (arith, next-slot s.requires.0 s.requires.1.1 refl, s.requires.0.few)))
+    (s.requires.0, (s.requires.1.0.0, omega (arith, next_slot s.requires.0 s.requires.1.1 refl, s.requires.0.few)))
 
 shl-result : tie.Need-overflow-shl-result
 shl-result c = search rules
@@ -28,7 +28,7 @@ shl-result c = search rules
 add-result : tie.Need-overflow-add-result
 add-result c =
     let s = c.before.before.before.before.before.before.before.before.before in
-    omega (arith, column-code s.args.g s.requires.0 s.args.first_slot, column-lt s.args.g s.requires.0)
+    omega (arith, column_code s.args.g s.requires.0 s.args.first_slot, column_lt s.args.g s.requires.0)
 
 same_length : tie.Need-same-length
 same_length c = search rules
@@ -36,9 +36,9 @@ same_length c = search rules
 returns : tie.Need-returns
 returns c =
     let s = c.before.before.before.before.before.before.before.before.before in
-    let e = column-code s.args.g s.requires.0 s.args.first_slot in
+    let e = column_code s.args.g s.requires.0 s.args.first_slot in
     let k = c.before.before.before.load-column.ensures in
-    ((e, rw e (caches-next s.requires.0 s.requires.1.1 refl k)), column-above s.requires.0 _ k)
+    ((e, rw e (caches_next s.requires.0 s.requires.1.1 refl k)), column_above s.requires.0 _ k)
 
 pub retire-spec : {M : Type 1} → statement M
 retire-spec =

@@ -4,7 +4,7 @@ use native.Mathlib.Omega.{arith}
 use borrow.Author.Rules.{rules}
 use Rattle.words.specs.Bit.{bit}
 use Rattle.words.specs.Map.{slot}
-use Rattle.words.specs.MapLaws.{slot-past}
+use Rattle.words.specs.MapLaws.{slot_past}
 use Rattle.rings.proofs.columns.slot_bit.Statement.{statement}
 use Rattle.rings.proofs.columns.slot_bit.Tie as tie
 
@@ -22,7 +22,7 @@ unfolding slot bit
 returns c = refl
 
 returns-2 : tie.Need-returns-2
-returns-2 c = sym (slot-past c.before.args.bitmap.now c.before.args.p (omega arith))
+returns-2 c = sym (slot_past c.before.args.bitmap.now c.before.args.p (omega arith))
 
 pub slot-bit-spec : {M : Type 1} → statement M
 slot-bit-spec =

@@ -5,7 +5,7 @@ use native.Mathlib.Omega.{arith}
 use borrow.Author.Rules.{rules}
 use Rattle.words.specs.Map.{slot}
 use Rattle.rings.specs.Columns.{Strided}
-use Rattle.rings.specs.ColumnLaws.{strided-none, strided-more, row_lt, row-code}
+use Rattle.rings.specs.ColumnLaws.{strided_none, strided_more, row_lt, row_code}
 use Rattle.rings.proofs.columns.stride_word.Statement.{statement}
 use Rattle.rings.proofs.columns.stride_word.Tie as tie
 
@@ -16,7 +16,7 @@ abbrev decreases-loop : tie.decreases-loop
 decreases-loop t bitmap p word₀ i₀ word i = 64 - i
 
 loop-holds : tie.Need-loop-init invariant-loop decreases-loop
-loop-holds c = (omega arith, strided-none _ _ _)
+loop-holds c = (omega arith, strided_none _ _ _)
 
 shl-slot-bit : tie.Need-overflow-shl-slot-bit invariant-loop decreases-loop
 shl-slot-bit c = search rules
@@ -24,7 +24,7 @@ shl-slot-bit c = search rules
 add-slot-bit : tie.Need-overflow-add-slot-bit invariant-loop decreases-loop
 add-slot-bit c =
     let s = c.before.before.before in
-    omega (arith, row-code s.args.t s.args.p c.before.loop.i s.requires.0 c.loop-test.true, row_lt s.args.t c.before.loop.i s.requires.0 c.loop-test.true)
+    omega (arith, row_code s.args.t s.args.p c.before.loop.i s.requires.0 c.loop-test.true, row_lt s.args.t c.before.loop.i s.requires.0 c.loop-test.true)
 
 slot-bit-requires : tie.Need-slot-bit-requires invariant-loop decreases-loop
 slot-bit-requires c κs = search rules
@@ -42,8 +42,8 @@ loop-again : tie.Need-loop-preserved invariant-loop decreases-loop
 loop-again c =
     let s = c.before.before.before.before in (
       omega arith,
-      strided-more c.before.before.loop.invariant.1 c.before.loop-test.true
-          (c.slot-bit.ensures ∙ ap (slot s.args.bitmap.now) (row-code s.args.t s.args.p c.before.before.loop.i s.requires.0 c.before.loop-test.true)),
+      strided_more c.before.before.loop.invariant.1 c.before.loop-test.true
+          (c.slot-bit.ensures ∙ ap (slot s.args.bitmap.now) (row_code s.args.t s.args.p c.before.before.loop.i s.requires.0 c.before.loop-test.true)),
     )
 
 returns : tie.Need-returns invariant-loop decreases-loop

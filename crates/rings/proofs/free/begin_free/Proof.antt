@@ -1,7 +1,7 @@
 -- `begin_free` leaves the barred rotation alone: all words are 0 but the first, which has it as bit 0 where n = R.
 use native.Mathlib.Omega.{arith}
 use borrow.Author.Rules.{rules}
-use Rattle.rings.specs.BlockedLaws.{begun-empty, begun}
+use Rattle.rings.specs.BlockedLaws.{begun_empty, begun}
 use Rattle.rings.proofs.free.begin_free.Statement.{statement}
 use Rattle.rings.proofs.free.begin_free.Tie as tie
 
@@ -15,7 +15,7 @@ same_length : tie.Need-same-length
 same_length c = search rules
 
 returns : tie.Need-returns
-returns c = begun-empty _ c.if1.true c.before.before.before.clear-words.ensures
+returns c = begun_empty _ c.if1.true c.before.before.before.clear-words.ensures
 
 bar-requires : tie.Need-bar-requires
 bar-requires c κs = search rules

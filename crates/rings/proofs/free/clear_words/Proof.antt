@@ -4,7 +4,7 @@ use borrow.Author.Rules.{rules}
 use Prim.Native.Nat.{◌≤◌, ◌-◌}
 use mathlib.Core.Path.{◌≡◌}
 use Rattle.rings.specs.Blocked.{Cleared}
-use Rattle.rings.specs.BlockedLaws.{cleared-none, cleared_more}
+use Rattle.rings.specs.BlockedLaws.{cleared_none, cleared_more}
 use Rattle.rings.proofs.free.clear_words.Statement.{statement}
 use Rattle.rings.proofs.free.clear_words.Tie as tie
 
@@ -15,7 +15,7 @@ abbrev decreases-loop : tie.decreases-loop
 decreases-loop work₀ to words i₀ work i = words - i
 
 loop-holds : tie.Need-loop-init invariant-loop decreases-loop
-loop-holds c = (omega arith, cleared-none _ _)
+loop-holds c = (omega arith, cleared_none _ _)
 
 add-work : tie.Need-overflow-add-work invariant-loop decreases-loop
 add-work c = search rules

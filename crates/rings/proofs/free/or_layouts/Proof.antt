@@ -4,7 +4,7 @@ use borrow.Author.Rules.{rules}
 use Prim.Native.Nat.{ℕ, ◌≤◌, ◌+◌, ◌-◌, ◌*◌}
 use mathlib.Core.Path.{◌≡◌}
 use Rattle.rings.specs.Stream.{LayoutsAdded}
-use Rattle.rings.specs.StreamLaws.{layouts-none, layouts-more, layouts-key, layout-end}
+use Rattle.rings.specs.StreamLaws.{layouts_none, layouts_more, layouts_key, layout_end}
 use Rattle.rings.proofs.free.or_layouts.Statement.{statement}
 use Rattle.rings.proofs.free.or_layouts.Tie as tie
 
@@ -19,7 +19,7 @@ turn : (at i q : ℕ) → at + i + q ≡ at + q + i
 turn at i q = omega arith
 
 loop-holds : tie.Need-loop-init invariant-loop decreases-loop
-loop-holds c = (omega arith, layouts-none _ _ _ _ _ _ _)
+loop-holds c = (omega arith, layouts_none _ _ _ _ _ _ _)
 
 mul-d : tie.Need-overflow-mul-d invariant-loop decreases-loop
 mul-d c = let s = c.before.before.before in omega (arith, s.requires.1.1.0.below c.before.loop.r c.loop-test.true)
@@ -39,19 +39,19 @@ slice-read-d c = let s = c.before.before.before.before in omega (arith, s.requir
 mul-or-key : tie.Need-overflow-mul-or-key invariant-loop decreases-loop
 mul-or-key c =
     let s = c.before.before.before.before.before in
-    omega (arith, layout-end s.args.layouts s.args.count c.before.before.before.loop.r c.before.before.loop-test.true)
+    omega (arith, layout_end s.args.layouts s.args.count c.before.before.before.loop.r c.before.before.loop-test.true)
 
 add-or-key : tie.Need-overflow-add-or-key invariant-loop decreases-loop
 add-or-key c =
     let s = c.before.before.before.before.before in
-    omega (arith, layout-end s.args.layouts s.args.count c.before.before.before.loop.r c.before.before.loop-test.true)
+    omega (arith, layout_end s.args.layouts s.args.count c.before.before.before.loop.r c.before.before.loop-test.true)
 
 or-key-requires : tie.Need-or-key-requires invariant-loop decreases-loop
 or-key-requires c κs =
     let s = c.before.before.before.before.before in
     let i = c.before.before.before.loop.invariant.1 in
     let lt = c.before.before.loop-test.true in
-    (s.requires.0, ((omega arith, omega (arith, i.within.len, layout-end s.args.layouts s.args.count c.before.before.before.loop.r lt), s.requires.1.0.2, s.requires.1.0.3), (rw (turn s.args.at s.args.i (c.before.before.before.loop.r * s.args.size)) at (layouts-key s.requires.1.1.0 i lt), s.requires.1.1.1)))
+    (s.requires.0, ((omega arith, omega (arith, i.within.len, layout_end s.args.layouts s.args.count c.before.before.before.loop.r lt), s.requires.1.0.2, s.requires.1.0.3), (rw (turn s.args.at s.args.i (c.before.before.before.loop.r * s.args.size)) at (layouts_key s.requires.1.1.0 i lt), s.requires.1.1.1)))
 
 add_r : tie.Need-overflow-add-r invariant-loop decreases-loop
 add_r c = search rules
@@ -64,7 +64,7 @@ loop-again c =
     let k = c.before.before in
     let t = k.before.before.before in
     let s = t.before.before.before in
-    (omega arith, layouts-more s.requires.0 s.requires.1.0.0 (s.requires.1.1.0.below t.before.loop.r t.loop-test.true) t.before.loop.invariant.1 (rw (← turn s.args.at s.args.i (t.before.loop.r * s.args.size)) at k.or-key.ensures))
+    (omega arith, layouts_more s.requires.0 s.requires.1.0.0 (s.requires.1.1.0.below t.before.loop.r t.loop-test.true) t.before.loop.invariant.1 (rw (← turn s.args.at s.args.i (t.before.loop.r * s.args.size)) at k.or-key.ensures))
 
 same_length : tie.Need-same-length invariant-loop decreases-loop
 same_length c = search rules

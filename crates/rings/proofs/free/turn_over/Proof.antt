@@ -7,7 +7,7 @@ use lib.Bits.{bit_and, and_le_r}
 use lib.Count.{ones-le}
 use lib.ListN.{get_or}
 use Rattle.rings.specs.Blocked.{TurnedOver}
-use Rattle.rings.specs.BlockedLaws.{over_none, over-more}
+use Rattle.rings.specs.BlockedLaws.{over_none, over_more}
 use Rattle.rings.proofs.free.turn_over.Statement.{statement}
 use Rattle.rings.proofs.free.turn_over.Tie as tie
 
@@ -63,7 +63,7 @@ loop-again : tie.Need-loop-preserved invariant-loop decreases-loop
 loop-again c =
     let f = bit_and (2 ^ 64 - 1 - get_or c.before.before.loop.work (c.before.before.before.args.to + c.before.before.loop.i) 0) c.before.before.before.args.own_val in
     let small : f < 2 ^ 64 = omega (arith, and_le_r (2 ^ 64 - 1 - get_or c.before.before.loop.work (c.before.before.before.args.to + c.before.before.loop.i) 0) c.before.before.before.args.own_val) in
-    (omega arith, over-more (omega arith) c.before.before.loop.invariant.1 refl small refl)
+    (omega arith, over_more (omega arith) c.before.before.loop.invariant.1 refl small refl)
 
 same_length : tie.Need-same-length invariant-loop decreases-loop
 same_length c = search rules

@@ -5,7 +5,7 @@ use Prim.Native.Nat.{◌+◌, ◌-◌, ◌*◌, ◌%◌, ◌^◌}
 use lib.Bits.{and_le_r}
 use borrow.Author.Rules.{rules}
 use Rattle.rings.specs.RingLaws.{n_pos}
-use Rattle.rings.specs.KeyLaws.{entry-code, entry-small, turn-lt, mask_lt}
+use Rattle.rings.specs.KeyLaws.{entry_code, entry_small, turn_lt, mask_lt}
 use Rattle.rings.proofs.keys.entry_of.Statement.{statement}
 use Rattle.rings.proofs.keys.entry_of.Tie as tie
 
@@ -15,7 +15,7 @@ shl-result c = search rules
 add-result : tie.Need-overflow-add-result
 add-result c =
     let s = c.before in
-    omega (arith, turn-lt s.args.g s.requires.0 s.args.j s.requires.1.1, mod-le (s.args.j * 2 ^ s.args.g.t) (2 ^ 64))
+    omega (arith, turn_lt s.args.g s.requires.0 s.args.j s.requires.1.1, mod-le (s.args.j * 2 ^ s.args.g.t) (2 ^ 64))
 
 sub-result : tie.Need-overflow-sub-result
 sub-result c = let s = c.before.before in n_pos s.args.g s.requires.0
@@ -32,8 +32,8 @@ add-result-2 c =
 returns : tie.Need-returns
 returns c =
     let s = c.before.before.before in
-    let e = entry-code s.args.g s.requires.0 s.args.d s.args.j s.requires.1.1 in
-    (e, omega (arith, e, entry-small s.args.g s.requires.0 s.args.d s.args.j s.requires.1.0))
+    let e = entry_code s.args.g s.requires.0 s.args.d s.args.j s.requires.1.1 in
+    (e, omega (arith, e, entry_small s.args.g s.requires.0 s.args.d s.args.j s.requires.1.0))
 
 pub entry-of-spec : {M : Type 1} → statement M
 entry-of-spec =

@@ -2,7 +2,7 @@
 use native.Mathlib.Omega.{arith}
 use borrow.Author.Rules.{rules}
 use Rattle.rings.specs.KeyLaws.{key_row}
-use Rattle.rings.specs.RingLaws.{n-le}
+use Rattle.rings.specs.RingLaws.{n_le}
 use Rattle.rings.proofs.keys.key_row.Statement.{statement}
 use Rattle.rings.proofs.keys.key_row.Tie as tie
 
@@ -10,7 +10,7 @@ mul-place-of : tie.Need-overflow-mul-place-of
 mul-place-of c = search rules
 
 place-of-requires : tie.Need-place-of-requires
-place-of-requires c κs = let s = c.before in (s.requires.0, omega (arith, n-le s.args.g s.requires.0))
+place-of-requires c κs = let s = c.before in (s.requires.0, omega (arith, n_le s.args.g s.requires.0))
 
 add-ring64 : tie.Need-overflow-add-ring64
 add-ring64 c = search rules

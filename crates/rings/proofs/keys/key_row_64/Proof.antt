@@ -1,7 +1,7 @@
 -- `key_row_64` gives a key's slots at all 64 rotations: the row of its ring, turned by the place that it takes at rotation 0.
 use native.Mathlib.Omega.{arith}
 use borrow.Author.Rules.{rules}
-use Rattle.rings.specs.KeyLaws.{key-row-64}
+use Rattle.rings.specs.KeyLaws.{key_row_64}
 use Rattle.rings.proofs.keys.key_row_64.Statement.{statement}
 use Rattle.rings.proofs.keys.key_row_64.Tie as tie
 
@@ -29,7 +29,7 @@ shl-result c = search rules
 returns : tie.Need-returns
 returns c =
     let s = c.before.before in
-    key-row-64 s.requires.1.1.0 s.requires.1.1.1.1 (omega arith) c.row64.ensures
+    key_row_64 s.requires.1.1.0 s.requires.1.1.1.1 (omega arith) c.row64.ensures
 
 pub key-row-64-spec : {M : Type 1} → statement M
 key-row-64-spec =

@@ -4,7 +4,7 @@ use Prim.Native.Nat.{◌%◌, ◌^◌}
 use lib.Pow.{shr_le}
 use borrow.Author.Rules.{rules}
 use Rattle.rings.specs.RingLaws.{n_pos}
-use Rattle.rings.specs.KeyLaws.{place-code}
+use Rattle.rings.specs.KeyLaws.{place_code}
 use Rattle.rings.proofs.keys.place_of.Statement.{statement}
 use Rattle.rings.proofs.keys.place_of.Tie as tie
 
@@ -18,7 +18,7 @@ sub-result : tie.Need-overflow-sub-result
 sub-result c = let s = c.before.before in n_pos s.args.g s.requires.0
 
 returns : tie.Need-returns
-returns c = let s = c.before.before in place-code s.args.g s.requires.0 s.args.d s.args.j
+returns c = let s = c.before.before in place_code s.args.g s.requires.0 s.args.d s.args.j
 
 pub place-of-spec : {M : Type 1} → statement M
 place-of-spec = tie.close (tie.spec shr-result add-result sub-result returns)

@@ -1,7 +1,7 @@
 -- `take_slot` marks a slot that was free, and leaves the ring where it was not.
 use borrow.Author.Rules.{rules}
 use mathlib.Core.Path.{sym, ◌∙◌}
-use Rattle.rings.specs.MarkLaws.{ring-test-code, ring-mark-code, took-no, took-yes}
+use Rattle.rings.specs.MarkLaws.{ring_test_code, ring_mark_code, took_no, took_yes}
 use Rattle.rings.proofs.marks.take_slot.Statement.{statement}
 use Rattle.rings.proofs.marks.take_slot.Tie as tie
 
@@ -23,8 +23,8 @@ shr-if1 c = search rules
 returns : tie.Need-returns
 returns c =
     let s = c.before.before.before.before.before in
-    took-no s.args.g s.args.work.now s.args.p
-    (sym (ring-test-code s.args.g.t s.args.g.words s.args.work.now s.args.p c.before.before.before.word_of.ensures.is c.before.before.bit-of.ensures.0) ∙ c.if1.true)
+    took_no s.args.g s.args.work.now s.args.p
+    (sym (ring_test_code s.args.g.t s.args.g.words s.args.work.now s.args.p c.before.before.before.word_of.ensures.is c.before.before.bit-of.ensures.0) ∙ c.if1.true)
 
 shl-work : tie.Need-overflow-shl-work
 shl-work c = search rules
@@ -41,9 +41,9 @@ same_length c = search rules
 returns-2 : tie.Need-returns-2
 returns-2 c =
     let s = c.before.before.before.before.before in
-    took-yes s.args.g s.args.work.now s.args.p
-    (λ e. c.if1.false (ring-test-code s.args.g.t s.args.g.words s.args.work.now s.args.p c.before.before.before.word_of.ensures.is c.before.before.bit-of.ensures.0 ∙ e))
-    (ring-mark-code s.args.g.t s.args.g.words s.args.work.now s.args.p c.before.before.before.word_of.ensures.is c.before.before.bit-of.ensures.0 c.before.before.bit-of.ensures.1)
+    took_yes s.args.g s.args.work.now s.args.p
+    (λ e. c.if1.false (ring_test_code s.args.g.t s.args.g.words s.args.work.now s.args.p c.before.before.before.word_of.ensures.is c.before.before.bit-of.ensures.0 ∙ e))
+    (ring_mark_code s.args.g.t s.args.g.words s.args.work.now s.args.p c.before.before.before.word_of.ensures.is c.before.before.bit-of.ensures.0 c.before.before.bit-of.ensures.1)
 
 pub take-slot-spec : {M : Type 1} → statement M
 take-slot-spec =

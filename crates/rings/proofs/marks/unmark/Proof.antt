@@ -1,6 +1,6 @@
 -- `unmark` clears the slot's bit of its word.
 use borrow.Author.Rules.{rules}
-use Rattle.rings.specs.MarkLaws.{ring-clear-code}
+use Rattle.rings.specs.MarkLaws.{ring_clear_code}
 use Rattle.rings.proofs.marks.unmark.Statement.{statement}
 use Rattle.rings.proofs.marks.unmark.Tie as tie
 
@@ -34,7 +34,7 @@ same_length c = search rules
 returns : tie.Need-returns
 returns c =
     let s = c.before.before.before.before in
-    ring-clear-code s.args.g.t s.args.g.words s.args.work.now s.args.p c.before.before.word_of.ensures.is c.before.bit-of.ensures.0 c.before.bit-of.ensures.1
+    ring_clear_code s.args.g.t s.args.g.words s.args.work.now s.args.p c.before.before.word_of.ensures.is c.before.bit-of.ensures.0 c.before.bit-of.ensures.1
 
 pub unmark-spec : {M : Type 1} → statement M
 unmark-spec =

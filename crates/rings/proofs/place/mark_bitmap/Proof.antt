@@ -4,7 +4,7 @@ use Prim.Native.Nat.{◌-◌}
 use native.Mathlib.Omega.{arith}
 use lib.ListN.{length}
 use borrow.Author.Rules.{rules}
-use Rattle.rings.specs.PlaceLaws.{Mapping, mapping-none, mapping-more}
+use Rattle.rings.specs.PlaceLaws.{Mapping, mapping_none, mapping_more}
 use Rattle.rings.proofs.place.mark_bitmap.Statement.{statement}
 use Rattle.rings.proofs.place.mark_bitmap.Tie as tie
 
@@ -15,7 +15,7 @@ abbrev decreases-loop : tie.decreases-loop
 decreases-loop g keys start j bitmap₀ i₀ bitmap i = length keys - i
 
 loop-holds : tie.Need-loop-init invariant-loop decreases-loop
-loop-holds c = mapping-none _ _ _ _ _
+loop-holds c = mapping_none _ _ _ _ _
 
 mul-slot-of : tie.Need-overflow-mul-slot-of invariant-loop decreases-loop
 mul-slot-of c = search rules
@@ -38,7 +38,7 @@ loop-less : tie.Need-loop-smaller invariant-loop decreases-loop
 loop-less c = search rules
 
 loop-again : tie.Need-loop-preserved invariant-loop decreases-loop
-loop-again c = mapping-more c.before.before.before.before.before.before.before.loop.invariant c.before.before.before.before.before.before.loop-test.true c.before.before.before.before.slot_of.ensures c.before.before.set-bit.ensures
+loop-again c = mapping_more c.before.before.before.before.before.before.before.loop.invariant c.before.before.before.before.before.before.loop-test.true c.before.before.before.before.slot_of.ensures c.before.before.set-bit.ensures
 
 same_length : tie.Need-same-length invariant-loop decreases-loop
 same_length c = c.before.loop.invariant.len

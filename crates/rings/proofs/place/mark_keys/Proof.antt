@@ -3,7 +3,7 @@ use borrow.Author.Tests.{not-true, not-false}
 use native.Mathlib.Omega.{arith}
 use borrow.Author.Rules.{rules}
 use Prim.Native.Nat.{◌-◌}
-use Rattle.rings.specs.PlaceLaws.{Marking, marking-none, marking-ok, marking-met, marking-more, marking-all}
+use Rattle.rings.specs.PlaceLaws.{Marking, marking_none, marking_ok, marking_met, marking_more, marking_all}
 use Rattle.rings.proofs.place.mark_keys.Statement.{statement}
 use Rattle.rings.proofs.place.mark_keys.Tie as tie
 
@@ -14,7 +14,7 @@ abbrev decreases-loop : tie.decreases-loop
 decreases-loop g work₀ at size start j i₀ work i = size - i
 
 loop-holds : tie.Need-loop-init invariant-loop decreases-loop
-loop-holds c = marking-none _ _ _ _ _ _
+loop-holds c = marking_none _ _ _ _ _ _
 
 add-slot-of : tie.Need-overflow-add-slot-of invariant-loop decreases-loop
 add-slot-of c = search rules
@@ -26,7 +26,7 @@ slice-read-slot-of : tie.Need-slice-read-slot-of invariant-loop decreases-loop
 slice-read-slot-of c = search rules
 
 slot-of-requires : tie.Need-slot-of-requires invariant-loop decreases-loop
-slot-of-requires c κs = let s = c.before.before.before.before in (s.requires.0, (marking-ok s.requires.0 c.before.before.loop.invariant s.requires.1.0.0 c.before.loop-test.true s.requires.1.0.1 s.requires.1.1.0, s.requires.1.1.1))
+slot-of-requires c κs = let s = c.before.before.before.before in (s.requires.0, (marking_ok s.requires.0 c.before.before.loop.invariant s.requires.1.0.0 c.before.loop-test.true s.requires.1.0.1 s.requires.1.1.0, s.requires.1.1.1))
 
 take-slot-requires : tie.Need-take-slot-requires invariant-loop decreases-loop
 take-slot-requires c κs = (c.before.before.before.before.before.before.requires.0, omega arith)
@@ -37,7 +37,7 @@ same_length c = omega (arith, c.before.before.before.take-slot.auto)
 returns : tie.Need-returns invariant-loop decreases-loop
 returns c =
     let s = c.before.before.before.before.before.before.before.before.before.before in
-    marking-met s.requires.0 c.before.before.before.before.before.before.before.before.loop.invariant s.requires.1.0.0 c.before.before.before.before.before.before.before.loop-test.true c.before.before.before.before.before.slot_of.ensures c.before.before.before.take-slot.ensures (not-true _ c.if1.true)
+    marking_met s.requires.0 c.before.before.before.before.before.before.before.before.loop.invariant s.requires.1.0.0 c.before.before.before.before.before.before.before.loop-test.true c.before.before.before.before.before.slot_of.ensures c.before.before.before.take-slot.ensures (not-true _ c.if1.true)
 
 add-i : tie.Need-overflow-add-i invariant-loop decreases-loop
 add-i c = search rules
@@ -48,13 +48,13 @@ loop-less c = search rules
 loop-again : tie.Need-loop-preserved invariant-loop decreases-loop
 loop-again c =
     let s = c.before.before.before.before.before.before.before.before.before.before in
-    marking-more s.requires.0 c.before.before.before.before.before.before.before.before.loop.invariant s.requires.1.0.0 c.before.before.before.before.before.before.before.loop-test.true c.before.before.before.before.before.slot_of.ensures c.before.before.before.take-slot.ensures (not-false _ c.if1.false)
+    marking_more s.requires.0 c.before.before.before.before.before.before.before.before.loop.invariant s.requires.1.0.0 c.before.before.before.before.before.before.before.loop-test.true c.before.before.before.before.before.slot_of.ensures c.before.before.before.take-slot.ensures (not-false _ c.if1.false)
 
 same-length-2 : tie.Need-same-length-2 invariant-loop decreases-loop
 same-length-2 c = search rules
 
 returns-2 : tie.Need-returns-2 invariant-loop decreases-loop
-returns-2 c = marking-all c.before.loop.invariant c.loop-test.false
+returns-2 c = marking_all c.before.loop.invariant c.loop-test.false
 
 pub mark-keys-spec : {M : Type 1} → statement M
 mark-keys-spec =

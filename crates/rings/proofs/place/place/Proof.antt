@@ -5,8 +5,8 @@ use mathlib.Core.Path.{◌≡◌, ◌∙◌, ap}
 use mathlib.Core.List.{List}
 use borrow.Author.Rules.{rules}
 use Rattle.rings.specs.Parts.{part}
-use Rattle.rings.specs.Place.{unmarkedTo}
-use Rattle.rings.specs.PlaceLaws.{placed-yes, placed-no, part-markedTo}
+use Rattle.rings.specs.Place.{unmarked_to}
+use Rattle.rings.specs.PlaceLaws.{placed_yes, placed_no, part_marked_to}
 use Rattle.rings.proofs.place.place.Statement.{statement}
 use Rattle.rings.proofs.place.place.Tie as tie
 
@@ -17,14 +17,14 @@ same_length : tie.Need-same-length
 same_length c = search rules
 
 returns : tie.Need-returns
-returns c = placed-yes c.before.before.before.mark-keys.ensures c.if1.true
+returns c = placed_yes c.before.before.before.mark-keys.ensures c.if1.true
 
 unmark-keys-requires : tie.Need-unmark-keys-requires
 unmark-keys-requires c κs =
     let s = c.before.before.before.before.before.before.before in
     let m = c.before.before.before.before.mark-keys in
     let e : part m.new.1.0 s.args.at s.args.size ≡ part s.args.work.now s.args.at s.args.size =
-    part-markedTo s.args.g s.requires.0 _ _ _ _ _ s.args.at s.args.size s.requires.1.0.0 m.ensures.is in
+    part_marked_to s.args.g s.requires.0 _ _ _ _ _ s.args.at s.args.size s.requires.1.0.0 m.ensures.is in
     (s.requires.0, ((s.requires.1.0.0, omega (arith, m.auto), omega (arith, m.ensures.le)), (rw e s.requires.1.1.0, s.requires.1.1.1)))
 
 same-length-2 : tie.Need-same-length-2
@@ -35,9 +35,9 @@ returns-2 c =
     let s = c.before.before.before.before.before.before.before.before.before.before in
     let m = c.before.before.before.before.before.before.before.mark-keys in
     let e : part m.new.1.0 s.args.at s.args.size ≡ part s.args.work.now s.args.at s.args.size =
-    part-markedTo s.args.g s.requires.0 _ _ _ _ _ s.args.at s.args.size s.requires.1.0.0 m.ensures.is in
-    placed-no s.requires.0 (omega arith) (λ k. (c.before.before.before.before.before.before.before.before.before.slice-known.given k).fits) m.ensures c.before.before.before.before.if1.false
-    (c.before.before.unmark-keys.ensures ∙ ap (λ (x : List ℕ). unmarkedTo s.args.g m.new.1.0 x s.args.start s.args.j m.result) e)
+    part_marked_to s.args.g s.requires.0 _ _ _ _ _ s.args.at s.args.size s.requires.1.0.0 m.ensures.is in
+    placed_no s.requires.0 (omega arith) (λ k. (c.before.before.before.before.before.before.before.before.before.slice-known.given k).fits) m.ensures c.before.before.before.before.if1.false
+    (c.before.before.unmark-keys.ensures ∙ ap (λ (x : List ℕ). unmarked_to s.args.g m.new.1.0 x s.args.start s.args.j m.result) e)
 
 pub place-spec : {M : Type 1} → statement M
 place-spec =

@@ -3,7 +3,7 @@ use native.Mathlib.Omega.{arith}
 use borrow.Author.Rules.{rules}
 use mathlib.Core.Path.{◌≡◌, sym, ◌∙◌}
 use Rattle.rings.specs.Parts.{part}
-use Rattle.rings.specs.PlaceLaws.{Unmarking, unmarking-start, unmarking-ok, unmarking-more, unmarkedTo-zero}
+use Rattle.rings.specs.PlaceLaws.{Unmarking, unmarking_start, unmarking_ok, unmarking_more, unmarked_to_zero}
 use Rattle.rings.proofs.place.unmark_keys.Statement.{statement}
 use Rattle.rings.proofs.place.unmark_keys.Tie as tie
 
@@ -14,7 +14,7 @@ abbrev decreases-loop : tie.decreases-loop
 decreases-loop g work₀ at size start j count i₀ work i = i
 
 loop-holds : tie.Need-loop-init invariant-loop decreases-loop
-loop-holds c = unmarking-start _ _ _ _ _ _ _ _
+loop-holds c = unmarking_start _ _ _ _ _ _ _ _
 
 sub-i : tie.Need-overflow-sub-i invariant-loop decreases-loop
 sub-i c = search rules
@@ -29,7 +29,7 @@ slice-read-slot-of : tie.Need-slice-read-slot-of invariant-loop decreases-loop
 slice-read-slot-of c = search rules
 
 slot-of-requires : tie.Need-slot-of-requires invariant-loop decreases-loop
-slot-of-requires c κs = let s = c.before.before.before.before in (s.requires.0, (unmarking-ok s.requires.0 c.before.before.loop.invariant s.requires.1.0.0 c.before.loop-test.true (omega arith) s.requires.1.0.1 s.requires.1.1.0, s.requires.1.1.1))
+slot-of-requires c κs = let s = c.before.before.before.before in (s.requires.0, (unmarking_ok s.requires.0 c.before.before.loop.invariant s.requires.1.0.0 c.before.loop-test.true (omega arith) s.requires.1.0.1 s.requires.1.1.0, s.requires.1.1.1))
 
 unmark-requires : tie.Need-unmark-requires invariant-loop decreases-loop
 unmark-requires c κs = (c.before.before.before.before.before.before.requires.0, omega arith)
@@ -40,7 +40,7 @@ loop-less c = search rules
 loop-again : tie.Need-loop-preserved invariant-loop decreases-loop
 loop-again c =
     let s = c.before.before.before.before.before.before.before.before.before in
-    unmarking-more s.requires.0 c.before.before.before.before.before.before.before.loop.invariant s.requires.1.0.0 c.before.before.before.before.before.before.loop-test.true (omega arith) c.before.before.before.before.slot_of.ensures c.before.before.unmark.ensures
+    unmarking_more s.requires.0 c.before.before.before.before.before.before.before.loop.invariant s.requires.1.0.0 c.before.before.before.before.before.before.loop-test.true (omega arith) c.before.before.before.before.slot_of.ensures c.before.before.unmark.ensures
 
 same_length : tie.Need-same-length invariant-loop decreases-loop
 same_length c = search rules
@@ -48,7 +48,7 @@ same_length c = search rules
 returns : tie.Need-returns invariant-loop decreases-loop
 returns c =
     let e : c.before.loop.i ≡ 0 = omega arith in
-    sym (unmarkedTo-zero _ _ _ _ _) ∙ (rw e at c.before.loop.invariant.is)
+    sym (unmarked_to_zero _ _ _ _ _) ∙ (rw e at c.before.loop.invariant.is)
 
 pub unmark-keys-spec : {M : Type 1} → statement M
 unmark-keys-spec =

@@ -4,7 +4,7 @@ use native.Mathlib.Nat.{mod-eq_of_lt}
 use mathlib.Core.Path.{◌≡◌}
 use Prim.Native.Nat.{◌%◌, ◌^◌}
 use borrow.Author.Rules.{rules}
-use Rattle.words.specs.ShiftLaws.{one-shl-pos, and_low}
+use Rattle.words.specs.ShiftLaws.{one_shl_pos, and_low}
 use Rattle.rings.proofs.rows.low_bits.Statement.{statement}
 use Rattle.rings.proofs.rows.low_bits.Tie as tie
 
@@ -12,7 +12,7 @@ shl-result : tie.Need-overflow-shl-result
 shl-result c = search rules
 
 sub-result : tie.Need-overflow-sub-result
-sub-result c = one-shl-pos 64 _ (omega arith)
+sub-result c = one_shl_pos 64 _ (omega arith)
 
 returns : tie.Need-returns
 returns c = and_low 64 _ _ (omega arith)

@@ -1,6 +1,6 @@
 -- `row64` gives the row from slot p on: the words of a slot and of the next column, joined at the slot's bit.
 use borrow.Author.Rules.{rules}
-use Rattle.rings.specs.RowLaws.{row-joined}
+use Rattle.rings.specs.RowLaws.{row_joined}
 use Rattle.rings.proofs.rows.row64.Statement.{statement}
 use Rattle.rings.proofs.rows.row64.Tie as tie
 
@@ -31,7 +31,7 @@ join-requires c κs = search rules
 returns : tie.Need-returns
 returns c =
     let b = c.before.before.before.before in
-    row-joined (b.before.before.shared-slice-known.given _).fits b.before.word_of.ensures b.next_word.ensures c.before.bit-of.ensures.0 c.join.ensures
+    row_joined (b.before.before.shared-slice-known.given _).fits b.before.word_of.ensures b.next_word.ensures c.before.bit-of.ensures.0 c.join.ensures
 
 pub row64-spec : {M : Type 1} → statement M
 row64-spec =

@@ -1,6 +1,6 @@
 -- `or_key` adds a key's slots: they are its ring from the place that the key takes at rotation 0.
 use borrow.Author.Rules.{rules}
-use Rattle.rings.specs.StreamLaws.{key-added}
+use Rattle.rings.specs.StreamLaws.{key_added}
 use Rattle.rings.proofs.stream.or_key.Statement.{statement}
 use Rattle.rings.proofs.stream.or_key.Tie as tie
 
@@ -23,7 +23,7 @@ returns : tie.Need-returns
 returns c =
     let r = c.before.before in
     let s = r.before.before.before.before in
-    key-added s.requires.1.1.0 r.before.before.place_of.ensures r.or-ring.ensures
+    key_added s.requires.1.1.0 r.before.before.place_of.ensures r.or-ring.ensures
 
 pub or-key-spec : {M : Type 1} → statement M
 or-key-spec =

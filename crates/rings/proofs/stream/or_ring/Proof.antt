@@ -3,8 +3,8 @@ use native.Mathlib.Omega.{arith}
 use borrow.Author.Rules.{rules}
 use Prim.Native.Nat.{◌≤◌, ◌-◌}
 use mathlib.Core.Path.{◌≡◌}
-use Rattle.rings.specs.RingLaws.{n-le}
-use Rattle.rings.specs.StreamLaws.{Streaming, stream-none, stream-more, next-lt}
+use Rattle.rings.specs.RingLaws.{n_le}
+use Rattle.rings.specs.StreamLaws.{Streaming, stream_none, stream_more, next_lt}
 use Rattle.rings.proofs.stream.or_ring.Statement.{statement}
 use Rattle.rings.proofs.stream.or_ring.Tie as tie
 
@@ -30,17 +30,17 @@ loop-holds : tie.Need-loop-init invariant-loop decreases-loop
 loop-holds c =
     let b = c.before.before.before in
     let s = b.before.before.before in
-    (omega arith, stream-none s.args.to s.requires.0 (omega arith) (omega arith) (omega arith) b.before.word_of.ensures.is b.bit-of.ensures.0 c.ring-word.ensures)
+    (omega arith, stream_none s.args.to s.requires.0 (omega arith) (omega arith) (omega arith) b.before.word_of.ensures.is b.bit-of.ensures.0 c.ring_word.ensures)
 
 add-k : tie.Need-overflow-add-k invariant-loop decreases-loop
 add-k c =
     let s = c.before.before.before.before.before.before.before.before in
-    omega (arith, n-le s.args.g s.requires.0)
+    omega (arith, n_le s.args.g s.requires.0)
 
 ring-word-requires-2 : tie.Need-ring-word-requires-2 invariant-loop decreases-loop
 ring-word-requires-2 c κs =
     let s = c.before.before.before.before.before.before.before.before.before in
-    (s.requires.0, (omega arith, (omega arith, omega arith, next-lt s.args.g s.requires.0 (omega arith) c.before.before.loop.k)))
+    (s.requires.0, (omega arith, (omega arith, omega arith, next_lt s.args.g s.requires.0 (omega arith) c.before.before.loop.k)))
 
 add-work : tie.Need-overflow-add-work invariant-loop decreases-loop
 add-work c = search rules
@@ -75,7 +75,7 @@ loop-again c =
     let i = r.before.before.before.loop.invariant in
     let b = r.before.before.before.before.before.before.before in
     let s = b.before.before.before in
-    (omega arith, stream-more s.requires.0 (omega arith) (omega arith) (omega arith) i.1 b.before.word_of.ensures.is b.bit-of.ensures.0 (omega arith) r.ring-word2.ensures c.join.ensures)
+    (omega arith, stream_more s.requires.0 (omega arith) (omega arith) (omega arith) i.1 b.before.word_of.ensures.is b.bit-of.ensures.0 (omega arith) r.ring-word2.ensures c.join.ensures)
 
 same_length : tie.Need-same-length invariant-loop decreases-loop
 same_length c = search rules

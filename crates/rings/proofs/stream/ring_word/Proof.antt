@@ -1,8 +1,8 @@
 -- `ring_word` gives word k of a ring: the words where its 64 places begin and go on, joined at the bit that the ring starts with.
 use native.Mathlib.Omega.{arith}
 use borrow.Author.Rules.{rules}
-use Rattle.rings.specs.RingLaws.{step-lt, step-code}
-use Rattle.rings.specs.StreamLaws.{on-code, ring-word}
+use Rattle.rings.specs.RingLaws.{step_lt, step_code}
+use Rattle.rings.specs.StreamLaws.{on_code, ring_word}
 use Rattle.rings.proofs.stream.ring_word.Statement.{statement}
 use Rattle.rings.proofs.stream.ring_word.Tie as tie
 
@@ -12,7 +12,7 @@ shl-w c = search rules
 add-w : tie.Need-overflow-add-w
 add-w c =
     let s = c.before.before in
-    omega (arith, step-lt s.args.g s.requires.0 s.args.k (omega arith), step-code s.args.g s.requires.0 s.args.k (omega arith))
+    omega (arith, step_lt s.args.g s.requires.0 s.args.k (omega arith), step_code s.args.g s.requires.0 s.args.k (omega arith))
 
 sub-w : tie.Need-overflow-sub-w
 sub-w c = search rules
@@ -20,17 +20,17 @@ sub-w c = search rules
 next-word-requires : tie.Need-next-word-requires
 next-word-requires c κs =
     let s = c.before.before.before in
-    (s.requires.0, (on-code s.args.g s.requires.0 s.args.base s.args.k (omega arith)).lt)
+    (s.requires.0, (on_code s.args.g s.requires.0 s.args.base s.args.k (omega arith)).lt)
 
 mul-join : tie.Need-overflow-mul-join
 mul-join c =
     let s = c.before.before.before.before in
-    omega (arith, (on-code s.args.g s.requires.0 s.args.base s.args.k (omega arith)).lt)
+    omega (arith, (on_code s.args.g s.requires.0 s.args.base s.args.k (omega arith)).lt)
 
 shared-slice-read-join : tie.Need-shared-slice-read-join
 shared-slice-read-join c =
     let s = c.before.before.before.before.before in
-    omega (arith, (on-code s.args.g s.requires.0 s.args.base s.args.k (omega arith)).lt)
+    omega (arith, (on_code s.args.g s.requires.0 s.args.base s.args.k (omega arith)).lt)
 
 mul-join-2 : tie.Need-overflow-mul-join-2
 mul-join-2 c = search rules
@@ -45,9 +45,9 @@ returns : tie.Need-returns
 returns c =
     let n = c.before.before.before in
     let s = n.before.before.before.before in
-    ring-word
+    ring_word
     (c.before.before.shared-slice-known2.given _).fits
-    (on-code s.args.g s.requires.0 s.args.base s.args.k (omega arith))
+    (on_code s.args.g s.requires.0 s.args.base s.args.k (omega arith))
     n.next_word.ensures
     c.join.ensures
 

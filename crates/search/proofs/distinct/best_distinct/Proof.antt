@@ -3,14 +3,14 @@ use mathlib.Core.Path.{◌≡◌, refl, ◌∙◌}
 use Prim.Native.Nat.{◌+◌, ◌-◌, ◌*◌, ◌≤◌}
 use native.Mathlib.Omega.{arith}
 use borrow.Author.Rules.{rules}
-use Rattle.best.specs.Layouts.{row-le}
-use Rattle.search.specs.Distinct.{bestDistinct}
+use Rattle.best.specs.Layouts.{row_le}
+use Rattle.search.specs.Distinct.{best_distinct}
 use Rattle.search.specs.DistinctLaws.{rows_none, rows_more}
 use Rattle.search.proofs.distinct.best_distinct.Statement.{statement}
 use Rattle.search.proofs.distinct.best_distinct.Tie as tie
 
 abbrev invariant-loop : tie.invariant-loop
-invariant-loop g table work₀ at size start to count layouts best₀ a₀ f₀ r₀ work best a f r = (work ≡ work₀) × (r ≤ layouts) × (best ≡ bestDistinct g table work₀ at size start to count r) × (a ≡ at + r * size) × (f ≡ to + r * count)
+invariant-loop g table work₀ at size start to count layouts best₀ a₀ f₀ r₀ work best a f r = (work ≡ work₀) × (r ≤ layouts) × (best ≡ best_distinct g table work₀ at size start to count r) × (a ≡ at + r * size) × (f ≡ to + r * count)
 
 abbrev decreases-loop : tie.decreases-loop
 decreases-loop g table work₀ at size start to count layouts best₀ a₀ f₀ r₀ work best a f r = layouts - r
@@ -25,10 +25,10 @@ distinct-layout-requires c κs = let s = c.before.before.before.before.before in
     rw (l.invariant.0, l.invariant.3, l.invariant.4) (s.requires.keys l.r lt, s.requires.free l.r lt)
 
 add_a : tie.Need-overflow-add-a invariant-loop decreases-loop
-add_a c = let s = c.before.before.before.before.before.before.before.before in omega (arith, s.requires.room.0, c.before.before.before.before.before.loop.invariant.3, row-le _ _ s.args.size c.before.before.before.before.loop-test.true)
+add_a c = let s = c.before.before.before.before.before.before.before.before in omega (arith, s.requires.room.0, c.before.before.before.before.before.loop.invariant.3, row_le _ _ s.args.size c.before.before.before.before.loop-test.true)
 
 add-f : tie.Need-overflow-add-f invariant-loop decreases-loop
-add-f c = let s = c.before.before.before.before.before.before.before.before in omega (arith, s.requires.room.1, c.before.before.before.before.before.loop.invariant.4, row-le _ _ s.args.count c.before.before.before.before.loop-test.true)
+add-f c = let s = c.before.before.before.before.before.before.before.before in omega (arith, s.requires.room.1, c.before.before.before.before.before.loop.invariant.4, row_le _ _ s.args.count c.before.before.before.before.loop-test.true)
 
 add_r : tie.Need-overflow-add-r invariant-loop decreases-loop
 add_r c = search rules

@@ -4,24 +4,24 @@ use mathlib.Core.Path.{◌≡◌, refl, sym, ◌∙◌}
 use Prim.Native.Nat.{◌≤◌, ◌-◌, ◌*◌}
 use native.Mathlib.Omega.{arith}
 use borrow.Author.Rules.{rules}
-use Rattle.rings.specs.Keys.{costAt}
+use Rattle.rings.specs.Keys.{cost_at}
 use Rattle.rings.specs.Parts.{part, length_part}
-use Rattle.best.specs.Best.{bestFrom}
-use Rattle.best.specs.BestLaws.{from-none}
+use Rattle.best.specs.Best.{best_from}
+use Rattle.best.specs.BestLaws.{from_none}
 use Rattle.best.specs.Walk.{word_more, word_end}
-use Rattle.search.specs.Distinct.{isDistinct}
-use Rattle.search.specs.DistinctLaws.{distinct-only}
+use Rattle.search.specs.Distinct.{is_distinct}
+use Rattle.search.specs.DistinctLaws.{distinct_only}
 use Rattle.search.proofs.distinct.distinct_layout.Statement.{statement}
 use Rattle.search.proofs.distinct.distinct_layout.Tie as tie
 
 abbrev invariant-loop : tie.invariant-loop
-invariant-loop g table work₀ a size start f count r best₀ w₀ work best w = (work ≡ work₀) × (w ≤ count) × (best ≡ bestFrom (costAt g table (part work₀ a size)) (isDistinct g start (part work₀ a size) (part work₀ f count)) r best₀ 0 (64 * w))
+invariant-loop g table work₀ a size start f count r best₀ w₀ work best w = (work ≡ work₀) × (w ≤ count) × (best ≡ best_from (cost_at g table (part work₀ a size)) (is_distinct g start (part work₀ a size) (part work₀ f count)) r best₀ 0 (64 * w))
 
 abbrev decreases-loop : tie.decreases-loop
 decreases-loop g table work₀ a size start f count r best₀ w₀ work best w = count - w
 
 loop-holds : tie.Need-loop-init invariant-loop decreases-loop
-loop-holds c = (refl, omega arith, sym (from-none _ _ _ _ _))
+loop-holds c = (refl, omega arith, sym (from_none _ _ _ _ _))
 
 distinct-word-requires : tie.Need-distinct-word-requires invariant-loop decreases-loop
 distinct-word-requires c κs = let s = c.before.before.before.before.before in
@@ -43,7 +43,7 @@ same_length c = search rules
 returns : tie.Need-returns invariant-loop decreases-loop
 returns c = let s = c.before.before.before.before in
     let l = c.before.loop in
-    (word_end _ _ _ _ _ _ l.w (distinct-only s.args.g s.args.start (part s.args.work.now s.args.a s.args.size) (part s.args.work.now s.args.f s.args.count)) s.requires.1.ended (omega (arith, length_part s.args.work.now s.args.f s.args.count s.requires.1.room)) l.invariant.2, l.invariant.0)
+    (word_end _ _ _ _ _ _ l.w (distinct_only s.args.g s.args.start (part s.args.work.now s.args.a s.args.size) (part s.args.work.now s.args.f s.args.count)) s.requires.1.ended (omega (arith, length_part s.args.work.now s.args.f s.args.count s.requires.1.room)) l.invariant.2, l.invariant.0)
 
 pub distinct-layout-spec : {M : Type 1} → statement M
 distinct-layout-spec =

@@ -2,13 +2,13 @@
 use native.Mathlib.Omega.{arith}
 use borrow.Author.Rules.{rules}
 use Rattle.best.specs.Kept.{kept_self}
-use Rattle.search.specs.LookLaws.{none-best}
+use Rattle.search.specs.LookLaws.{none_best}
 use Rattle.search.proofs.look.best_free.Statement.{statement}
 use Rattle.search.proofs.look.best_free.Tie as tie
 
 returns : tie.Need-returns
 returns c = let s = c.before.before.before in
-    (none-best s.requires (λ k. (c.before.slice-known.given k).fits) c.if1.true, kept_self _ _)
+    (none_best s.requires (λ k. (c.before.slice-known.given k).fits) c.if1.true, kept_self _ _)
 
 best-all-requires : tie.Need-best-all-requires
 best-all-requires c κs = search rules

@@ -1,5 +1,5 @@
 -- The literal ring is the ring itself. Assumes nothing.
-use Rattle.search.proofs.BothLaws.{asked-same, marked-same}
+use Rattle.search.proofs.BothLaws.{asked_same, marked_same}
 use borrow.Author.Rules.{rules}
 use Rattle.search.proofs.settle.mark_slots.Statement.{statement}
 use Rattle.search.proofs.settle.mark_slots.Tie as tie
@@ -8,10 +8,10 @@ usual-ring-requires : tie.Need-usual-ring-requires
 usual-ring-requires c κs = search rules
 
 literal-ring-requires : tie.Need-literal-ring-requires
-literal-ring-requires c κs = c.before.usual-ring.ensures c.if1.true
+literal-ring-requires c κs = c.before.usual_ring.ensures c.if1.true
 
 mark-both-requires : tie.Need-mark-both-requires
-mark-both-requires c κs = asked-same c.before.before.literal-ring.ensures c.before.before.before.before.before.before.before.requires
+mark-both-requires c κs = asked_same c.before.before.literal-ring.ensures c.before.before.before.before.before.before.before.requires
 
 same_length : tie.Need-same-length
 same_length c = search rules
@@ -20,7 +20,7 @@ same-length-2 : tie.Need-same-length-2
 same-length-2 c = search rules
 
 returns : tie.Need-returns
-returns c = marked-same c.before.before.before.before.before.before.before.literal-ring.ensures c.before.before.before.before.mark-both.ensures
+returns c = marked_same c.before.before.before.before.before.before.before.literal-ring.ensures c.before.before.before.before.mark-both.ensures
 
 mark-both-requires-2 : tie.Need-mark-both-requires-2
 mark-both-requires-2 c κs = search rules

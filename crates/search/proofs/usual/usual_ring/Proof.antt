@@ -1,17 +1,17 @@
 -- Each of the three tests passed tells its field. Assumes nothing.
-use Rattle.rules.proofs.Tests.{of-true}
+use Rattle.rules.proofs.Tests.{of_true}
 use borrow.Author.Rules.{rules}
 use Rattle.search.proofs.usual.usual_ring.Statement.{statement}
 use Rattle.search.proofs.usual.usual_ring.Tie as tie
 
 returns : tie.Need-returns
-returns c = λ x. absurd (of-true x)
+returns c = λ x. absurd (of_true x)
 
 returns-2 : tie.Need-returns-2
-returns-2 c = λ x. absurd (of-true x)
+returns-2 c = λ x. absurd (of_true x)
 
 returns-3 : tie.Need-returns-3
-returns-3 c = λ x. absurd (of-true x)
+returns-3 c = λ x. absurd (of_true x)
 
 returns-4 : tie.Need-returns-4
 returns-4 c = search rules

@@ -5,7 +5,7 @@ use Prim.Native.Nat.{◌≤◌, ◌-◌}
 use native.Mathlib.Omega.{arith}
 use lib.ListN.{length, drop}
 use Rattle.sorting.specs.Runs.{twins}
-use Rattle.sorting.proofs.TwinSteps.{equal-pair, other-pair, no-pair}
+use Rattle.sorting.proofs.TwinSteps.{equal_pair, other_pair, no_pair}
 use Rattle.sorting.proofs.neighbours.equal_neighbours.Statement.{statement}
 use Rattle.sorting.proofs.neighbours.equal_neighbours.Tie as tie
 
@@ -38,7 +38,7 @@ shared-slice-read-if1-2 c = omega arith
 
 returns : tie.Need-returns invariant-loop decreases-loop
 returns c =
-    sym (equal-pair c.before.before.before.before.before.args.run.now c.before.before.before.before.loop.i (omega arith) c.if1.true) ∙ c.before.before.before.before.loop.invariant.1
+    sym (equal_pair c.before.before.before.before.before.args.run.now c.before.before.before.before.loop.i (omega arith) c.if1.true) ∙ c.before.before.before.before.loop.invariant.1
 
 add-i : tie.Need-overflow-add-i invariant-loop decreases-loop
 add-i c = omega arith
@@ -47,10 +47,10 @@ loop-less : tie.Need-loop-smaller invariant-loop decreases-loop
 loop-less c = omega arith
 
 loop-again : tie.Need-loop-preserved invariant-loop decreases-loop
-loop-again c = (omega arith, sym (other-pair c.before.before.before.before.before.args.run.now c.before.before.before.before.loop.i (omega arith) c.if1.false) ∙ c.before.before.before.before.loop.invariant.1)
+loop-again c = (omega arith, sym (other_pair c.before.before.before.before.before.args.run.now c.before.before.before.before.loop.i (omega arith) c.if1.false) ∙ c.before.before.before.before.loop.invariant.1)
 
 returns-2 : tie.Need-returns-2 invariant-loop decreases-loop
-returns-2 c = sym (no-pair c.before.before.args.run.now c.before.loop.i (omega arith)) ∙ c.before.loop.invariant.1
+returns-2 c = sym (no_pair c.before.before.args.run.now c.before.loop.i (omega arith)) ∙ c.before.loop.invariant.1
 
 pub equal-neighbours-spec : {M : Type 1} → statement M
 equal-neighbours-spec =

@@ -1,6 +1,6 @@
 -- `bound` is the quotient of the definition: no product of a range's number and the buckets is too large.
 use native.Mathlib.Omega.{arith}
-use Rattle.sweep.proofs.RangeLaws.{product-fits}
+use Rattle.sweep.proofs.RangeLaws.{product_fits}
 use borrow.Author.Rules.{rules}
 use Rattle.sweep.proofs.chunks.bound.Statement.{statement}
 use Rattle.sweep.proofs.chunks.bound.Tie as tie
@@ -8,7 +8,7 @@ use Rattle.sweep.proofs.chunks.bound.Reads as reads
 use Rattle.sweep.proofs.chunks.bound.Lts as lts
 
 mul-result : tie.Need-overflow-mul-result
-mul-result c = omega (arith, product-fits c.args.k c.args.buckets c.requires.1 c.requires.2)
+mul-result c = omega (arith, product_fits c.args.k c.args.buckets c.requires.1 c.requires.2)
 
 div-result : tie.Need-nonzero-div-result
 div-result c = search rules

@@ -1,7 +1,7 @@
--- `range_at` is entry k of `rangesOf`: a short chunk, the last one, or a gap, as k stands to the chunks. Where there are gaps, each bound after the first is a gap or more.
+-- `range_at` is entry k of `ranges_of`: a short chunk, the last one, or a gap, as k stands to the chunks. Where there are gaps, each bound after the first is a gap or more.
 use native.Mathlib.Omega.{arith}
 use Prim.Native.Nat.{◌-◌}
-use Rattle.sweep.proofs.RangeLaws.{gap-room, short-by, last-by, gap_by}
+use Rattle.sweep.proofs.RangeLaws.{gap_room, short_by, last_by, gap_by}
 use borrow.Author.Rules.{rules}
 use Rattle.sweep.proofs.chunks.range_at.Statement.{statement}
 use Rattle.sweep.proofs.chunks.range_at.Tie as tie
@@ -22,10 +22,10 @@ bound-requires-2 : tie.Need-bound-requires-2
 bound-requires-2 c κs = search rules
 
 sub-t13 : tie.Need-overflow-sub-t13
-sub-t13 c = let s = c.before.before.before.before in gap-room s.args.g.settings s.args.chunks s.requires.1.1 s.args.gap s.requires.1.0 (s.requires.1.3 (omega (arith, c.before.before.if1.true))) s.args.k c.bound2.result c.bound2.ensures
+sub-t13 c = let s = c.before.before.before.before in gap_room s.args.g.settings s.args.chunks s.requires.1.1 s.args.gap s.requires.1.0 (s.requires.1.3 (omega (arith, c.before.before.if1.true))) s.args.k c.bound2.result c.bound2.ensures
 
 returns : tie.Need-returns
-returns c = let s = c.before.before.before.before in short-by s.args.g.settings s.args.chunks s.requires.1.1 s.args.gap s.requires.1.0 s.args.k c.before.bound.result c.bound2.result c.before.before.if1.true c.before.bound.ensures c.bound2.ensures
+returns c = let s = c.before.before.before.before in short_by s.args.g.settings s.args.chunks s.requires.1.1 s.args.gap s.requires.1.0 s.args.k c.before.bound.result c.bound2.result c.before.before.if1.true c.before.bound.ensures c.bound2.ensures
 
 add-if2 : tie.Need-overflow-add-if2
 add-if2 c = search rules
@@ -34,7 +34,7 @@ bound-requires-3 : tie.Need-bound-requires-3
 bound-requires-3 c κs = search rules
 
 returns-2 : tie.Need-returns-2
-returns-2 c = let s = c.before.before.before.before in last-by s.args.g.settings s.args.chunks s.requires.1.1 s.args.gap s.requires.1.0 s.args.k c.bound3.result c.before.if2.true c.bound3.ensures
+returns-2 c = let s = c.before.before.before.before in last_by s.args.g.settings s.args.chunks s.requires.1.1 s.args.gap s.requires.1.0 s.args.k c.bound3.result c.before.if2.true c.bound3.ensures
 
 sub-bound : tie.Need-overflow-sub-bound
 sub-bound c = search rules
@@ -46,7 +46,7 @@ bound-requires-4 : tie.Need-bound-requires-4
 bound-requires-4 c κs = search rules
 
 sub-t8 : tie.Need-overflow-sub-t8
-sub-t8 c = let s = c.before.before.before.before in gap-room s.args.g.settings s.args.chunks s.requires.1.1 s.args.gap s.requires.1.0 (s.requires.1.3 (omega (arith, c.before.if2.false, c.before.before.if1.false, s.requires.1.4))) (s.args.k - s.args.chunks) c.bound4.result c.bound4.ensures
+sub-t8 c = let s = c.before.before.before.before in gap_room s.args.g.settings s.args.chunks s.requires.1.1 s.args.gap s.requires.1.0 (s.requires.1.3 (omega (arith, c.before.if2.false, c.before.before.if1.false, s.requires.1.4))) (s.args.k - s.args.chunks) c.bound4.result c.bound4.ensures
 
 returns-3 : tie.Need-returns-3
 returns-3 c = let s = c.before.before.before.before in gap_by s.args.g.settings s.args.chunks s.requires.1.1 s.args.gap s.requires.1.0 s.args.k c.bound4.result (omega (arith, c.before.if2.false, c.before.before.if1.false)) s.requires.1.4 c.bound4.ensures

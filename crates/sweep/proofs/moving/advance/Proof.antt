@@ -30,12 +30,12 @@ loop-holds : tie.Need-loop-init invariant-loop decreases-loop
 loop-holds c = (refl, omega (arith, c.before.first.ensures.0, c.before.before.before.before.requires.1.1.0.2), c.before.before.before.before.requires.1.1.1)
 
 add-loop : tie.Need-overflow-add-loop invariant-loop decreases-loop
-add-loop c = omega (arith, c.loop.invariant.1, c.before.before.first.ensures.1, (sized c.before.before.before.before.before.args.g c.before.before.before.before.before.requires.0).ns-high, c.before.column-slots.ensures.1)
+add-loop c = omega (arith, c.loop.invariant.1, c.before.before.first.ensures.1, (sized c.before.before.before.before.before.args.g c.before.before.before.before.before.requires.0).ns_high, c.before.column-slots.ensures.1)
 
 retire-requires : tie.Need-retire-requires invariant-loop decreases-loop
 retire-requires c κs =
     let s = c.before.before.before.before.before.before.before in
-    (s.requires.1.0, ((omega (arith, c.before.before.loop.invariant.0, s.requires.1.1.0.0), omega (arith, c.before.before.loop.invariant.1, c.before.before.before.before.first.ensures.1, (sized s.args.g s.requires.0).ns-high)), c.before.before.loop.invariant.2))
+    (s.requires.1.0, ((omega (arith, c.before.before.loop.invariant.0, s.requires.1.1.0.0), omega (arith, c.before.before.loop.invariant.1, c.before.before.before.before.first.ensures.1, (sized s.args.g s.requires.0).ns_high)), c.before.before.loop.invariant.2))
 
 loop-less : tie.Need-loop-smaller invariant-loop decreases-loop
 loop-less c = omega (arith, pow_pos c.before.before.before.before.before.before.before.before.before.before.args.ring.t, c.before.before.retire.ensures.0.0, c.before.before.before.before.before.before.column-slots.ensures.0, c.before.before.before.before.loop-test.true, c.before.before.before.before.before.loop.invariant.1)

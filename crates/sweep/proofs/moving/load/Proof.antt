@@ -4,8 +4,8 @@ use mathlib.Core.Path.{◌≡◌, refl, sym, ap, ◌∙◌, subst}
 use Prim.Native.Nat.{ℕ, ◌+◌, ◌-◌, ◌*◌, ◌/◌, ◌^◌, ◌<◌, ◌≤◌}
 use lib.ListN.{length}
 use Rattle.geometry.proofs.Sizes.{sized}
-use Rattle.rings.specs.Columns.{colSlot, Caches}
-use Rattle.sweep.proofs.RangeLaws.{col-le, col-is}
+use Rattle.rings.specs.Columns.{col_slot, Caches}
+use Rattle.sweep.proofs.RangeLaws.{col_le, col_is}
 use borrow.Author.Rules.{rules}
 use Rattle.sweep.proofs.moving.load.Statement.{statement}
 use Rattle.sweep.proofs.moving.load.Tie as tie
@@ -24,7 +24,7 @@ shr-c c = search rules
 load-ring-requires : tie.Need-load-ring-requires
 load-ring-requires c κs =
     let s = c.before.before.before.before.before in
-    (s.requires.1.0, (s.requires.1.1.0, omega (arith, col-le s.args.ring.t c.before.before.first.result, c.before.before.first.ensures.1, (sized s.args.g s.requires.0).ns-high)))
+    (s.requires.1.0, (s.requires.1.1.0, omega (arith, col_le s.args.ring.t c.before.before.first.result, c.before.before.first.ensures.1, (sized s.args.g s.requires.0).ns_high)))
 
 column-slots-requires : tie.Need-column-slots-requires
 column-slots-requires c κs = search rules
@@ -34,7 +34,7 @@ mul-result c =
     let s = c.before.before.before.before.before.before.before.before.before in
     let at = c.before.before.before.before.before.before.first.result in
     let k = at / 2 ^ s.args.ring.t / 64 in
-    omega (arith, ap (λ (x : ℕ). k * x) c.column-slots.ensures.0, col-is s.args.ring.t k, col-le s.args.ring.t at, c.before.before.before.before.before.before.first.ensures.1, (sized s.args.g s.requires.0).ns-high)
+    omega (arith, ap (λ (x : ℕ). k * x) c.column-slots.ensures.0, col_is s.args.ring.t k, col_le s.args.ring.t at, c.before.before.before.before.before.before.first.ensures.1, (sized s.args.g s.requires.0).ns_high)
 
 same_length : tie.Need-same-length
 same_length c = search rules
@@ -44,8 +44,8 @@ returns c =
     let s = c.before.before.before.before.before.before.before.before.before in
     let at = c.before.before.before.before.before.before.first.result in
     let k = at / 2 ^ s.args.ring.t / 64 in
-    let e : k * c.column-slots.result ≡ colSlot s.args.ring.t k = ap (λ (x : ℕ). k * x) c.column-slots.ensures.0 ∙ col-is s.args.ring.t k in
-    (omega (arith, e, col-le s.args.ring.t at, c.before.before.before.before.before.before.first.ensures.0), subst (λ (x : ℕ). Caches s.args.ring c.before.before.before.load-ring.new.1.0 s.args.bitmap.now x) (sym e) c.before.before.before.load-ring.ensures)
+    let e : k * c.column-slots.result ≡ col_slot s.args.ring.t k = ap (λ (x : ℕ). k * x) c.column-slots.ensures.0 ∙ col_is s.args.ring.t k in
+    (omega (arith, e, col_le s.args.ring.t at, c.before.before.before.before.before.before.first.ensures.0), subst (λ (x : ℕ). Caches s.args.ring c.before.before.before.load-ring.new.1.0 s.args.bitmap.now x) (sym e) c.before.before.before.load-ring.ensures)
 
 pub load_spec : {M : Type 1} → statement M
 load_spec =

@@ -1,4 +1,4 @@
-use Rattle.sweep.proofs.TurnLaws.{level-groups, asked, seed-room, answered}
+use Rattle.sweep.proofs.TurnLaws.{level_groups, asked, seed_room, answered}
 use mathlib.Core.Path.{◌≡◌, refl, sym, ap, ◌∙◌, subst}
 use native.Mathlib.Omega.{arith}
 use borrow.Author.Rules.{rules}
@@ -9,7 +9,7 @@ use Rattle.sweep.proofs.turning.serve.Lts as lts
 use Rattle.groups.proofs.keys_of.Reads as keys-of-reads
 
 keys-of-requires : tie.Need-keys-of-requires
-keys-of-requires c κs = let w = c.before.before.before.before.before.before.requires.1 in level-groups w.level _ w.turn.high
+keys-of-requires c κs = let w = c.before.before.before.before.before.before.requires.1 in level_groups w.level _ w.turn.high
 
 search-requires : tie.Need-search-requires
 search-requires c κs =
@@ -25,7 +25,7 @@ mul-seeds : tie.Need-overflow-mul-seeds
 mul-seeds c = search rules
 
 slice-write-seeds : tie.Need-slice-write-seeds
-slice-write-seeds c = let w = c.before.before.before.before.before.before.before.before.before.before.before.before.before.before.requires.1 in seed-room w.level w.buffers w.turn
+slice-write-seeds c = let w = c.before.before.before.before.before.before.before.before.before.before.before.before.before.before.requires.1 in seed_room w.level w.buffers w.turn
 
 same_length : tie.Need-same-length
 same_length c = search rules

@@ -12,10 +12,10 @@ use Rattle.window.specs.declared.large.Best.{Best}
 use mir.Syntax.{w64}
 use mir.Val.{to_z, of_z}
 use mir.Facts.{to_z-of_z}
-use Rattle.integers.specs.Ints.{small-fits}
-use Rattle.window.specs.Key.{key_of, beyondOf}
+use Rattle.integers.specs.Ints.{small_fits}
+use Rattle.window.specs.Key.{key_of, beyond_of}
 use Rattle.words.specs.Map.{slot}
-use Rattle.window.specs.Large.{largeKey, betterOf}
+use Rattle.window.specs.Large.{large_key, better_of}
 use Rattle.window.proofs.large.better.Statement.{statement}
 use Rattle.window.proofs.large.better.Tie as tie
 use Rattle.window.proofs.large.better.Reads as reads
@@ -25,29 +25,29 @@ use Rattle.window.proofs.rule.key.Reads as key_reads
 use Rattle.words.proofs.is_occupied.Reads as is-occupied-reads
 
 -- the key, once it is made
-key_back : (c : tie.After-key) → let s = c.before.before.before.before.before.before in to_z w64 (of_z w64 c.key.result) ≡ largeKey s.args.w6 s.args.w7 s.args.size s.args.b
-unfolding largeKey
+key_back : (c : tie.After-key) → let s = c.before.before.before.before.before.before in to_z w64 (of_z w64 c.key.result) ≡ large_key s.args.w6 s.args.w7 s.args.size s.args.b
+unfolding large_key
 key_back c =
     let s = c.before.before.before.before.before.before in
     let back : to_z w64 (of_z w64 c.key.result) ≡ c.key.result = to_z-of_z (record { sfits = c.key.type-inv }) in
     let made : c.key.result ≡ key_of c.before.beyond.result s.args.b =
-    simp (to_z-of_z (small-fits c.before.beyond.result (omega (arith, c.before.beyond.ensures.1)))) at c.key.ensures in
-    let weighs : c.before.beyond.result ≡ beyondOf s.args.w6 s.args.w7 s.args.size = simp (to_z-of_z s.ranges.w6, to_z-of_z s.ranges.w7) at c.before.beyond.ensures.0 in
+    simp (to_z-of_z (small_fits c.before.beyond.result (omega (arith, c.before.beyond.ensures.1)))) at c.key.ensures in
+    let weighs : c.before.beyond.result ≡ beyond_of s.args.w6 s.args.w7 s.args.size = simp (to_z-of_z s.ranges.w6, to_z-of_z s.ranges.w7) at c.before.beyond.ensures.0 in
     back ∙ made ∙ ap (λ (v : ℤ). key_of v s.args.b) weighs
 
 -- by the tests: few keys, taken, or compared
 module _ (set : List ℕ) (w6 w7 : ℤ) (best : Best) (size b : ℕ) where
-  few : size < 64 → best ≡ betterOf set w6 w7 best size b
-  unfolding betterOf
+  few : size < 64 → best ≡ better_of set w6 w7 best size b
+  unfolding better_of
   few l = simp (lt-ltb size 64 l)
 
-  gone : 64 ≤ size → eqb (slot set (b % 1024)) 1 ≡ false → best ≡ betterOf set w6 w7 best size b
-  unfolding betterOf
+  gone : 64 ≤ size → eqb (slot set (b % 1024)) 1 ≡ false → best ≡ better_of set w6 w7 best size b
+  unfolding better_of
   gone l e = simp (le-ltb size 64 l, e)
 
-  compared : (k : ℤ) (t : Bool) → 64 ≤ size → eqb (slot set (b % 1024)) 1 ≡ true → k ≡ largeKey w6 w7 size b → lt_z best.key k ≡ t
-      → cond t (record { bucket = b; key = k }) best ≡ betterOf set w6 w7 best size b
-  unfolding betterOf
+  compared : (k : ℤ) (t : Bool) → 64 ≤ size → eqb (slot set (b % 1024)) 1 ≡ true → k ≡ large_key w6 w7 size b → lt_z best.key k ≡ t
+      → cond t (record { bucket = b; key = k }) best ≡ better_of set w6 w7 best size b
+  unfolding better_of
   compared k t l u e f =
       ap (λ (v : Bool). cond v (record { bucket = b; key = k }) best) (sym f)
       ∙ ap (λ (z : ℤ). cond (lt_z best.key z) (record { bucket = b; key = z }) best) e

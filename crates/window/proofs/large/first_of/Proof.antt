@@ -10,7 +10,7 @@ use lib.Signed.{lt_z}
 use mir.Syntax.{w64}
 use mir.Val.{to_z, of_z}
 use mir.Facts.{to_z-of_z}
-use Rattle.window.specs.Large.{keyIn, first_of}
+use Rattle.window.specs.Large.{key_in, first_of}
 use Rattle.window.proofs.Sizes.{fewer}
 use Rattle.window.proofs.large.first_of.Statement.{statement}
 use Rattle.window.proofs.large.first_of.Tie as tie
@@ -22,13 +22,13 @@ use Rattle.window.proofs.large.key_of.Reads as key-of-reads
 none_told : (begins : List ℕ) (table : List ℤ) (large b : ℕ) → large ≡ 0 → b + 1 ≡ first_of begins table large b
 unfolding first_of
 none_told begins table large b z =
-    sym (ap (λ (u : Bool). cond u (b + 1) (cond (lt_z (keyIn begins table (large - 1)) (keyIn begins table b)) (b + 1) large)) (eq-eqb large 0 z))
+    sym (ap (λ (u : Bool). cond u (b + 1) (cond (lt_z (key_in begins table (large - 1)) (key_in begins table b)) (b + 1) large)) (eq-eqb large 0 z))
 
-one_told : (begins : List ℕ) (table : List ℤ) (large b : ℕ) (t : Bool) → (large ≡ 0 → ⊥) → lt_z (keyIn begins table (large - 1)) (keyIn begins table b) ≡ t
+one_told : (begins : List ℕ) (table : List ℤ) (large b : ℕ) (t : Bool) → (large ≡ 0 → ⊥) → lt_z (key_in begins table (large - 1)) (key_in begins table b) ≡ t
     → cond t (b + 1) large ≡ first_of begins table large b
 unfolding first_of
 one_told begins table large b t d q =
-    sym (ap (λ (u : Bool). cond u (b + 1) (cond (lt_z (keyIn begins table (large - 1)) (keyIn begins table b)) (b + 1) large)) (ne_eqb large 0 d)
+    sym (ap (λ (u : Bool). cond u (b + 1) (cond (lt_z (key_in begins table (large - 1)) (key_in begins table b)) (b + 1) large)) (ne_eqb large 0 d)
     ∙ ap (λ (u : Bool). cond u (b + 1) large) q)
 
 add-result : tie.Need-overflow-add-result
@@ -55,7 +55,7 @@ add-result-2 c = search rules
 -- the keys as the test reads them
 tested : (c : tie.After-key-of2)
     → let s = c.before.before.before.before in
-    lt_z (keyIn s.args.begins.now s.args.table.now (s.args.large - 1)) (keyIn s.args.begins.now s.args.table.now s.args.b)
+    lt_z (key_in s.args.begins.now s.args.table.now (s.args.large - 1)) (key_in s.args.begins.now s.args.table.now s.args.b)
     ≡ lt_z (to_z w64 (of_z w64 c.before.key_of.result)) (to_z w64 (of_z w64 c.key-of2.result))
 tested c =
     let k : to_z w64 (of_z w64 c.before.key_of.result) ≡ c.before.key_of.result = to_z-of_z (record { sfits = c.before.key_of.type-inv }) in

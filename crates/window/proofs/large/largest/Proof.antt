@@ -7,8 +7,8 @@ use lib.ListN.{get_or}
 use mir.Syntax.{w64}
 use mir.Val.{to_z, of_z}
 use mir.Facts.{to_z-of_z}
-use Rattle.integers.specs.Ints.{small-fits}
-use Rattle.window.specs.Large.{lowest, betterOf}
+use Rattle.integers.specs.Ints.{small_fits}
+use Rattle.window.specs.Large.{lowest, better_of}
 use Rattle.window.proofs.LargeLaws.{Scanned, start, step, ended}
 use Rattle.window.proofs.large.largest.Statement.{statement}
 use Rattle.window.proofs.large.largest.Tie as tie
@@ -24,11 +24,11 @@ abbrev decreases-loop : tie.decreases-loop
 decreases-loop set begins table o e w6 w7 best₀ b₀ best b = e - b
 
 module _ (s : tie.Start invariant-loop decreases-loop) where
-  back-6 : to_z w64 (of_z w64 (get_or s.args.table.now 6 (pos 0))) ≡ get_or s.args.table.now 6 (pos 0)
-  back-6 = to_z-of_z (small-fits (get_or s.args.table.now 6 (pos 0)) (omega (arith, s.requires.measured.sixth)))
+  back_6 : to_z w64 (of_z w64 (get_or s.args.table.now 6 (pos 0))) ≡ get_or s.args.table.now 6 (pos 0)
+  back_6 = to_z-of_z (small_fits (get_or s.args.table.now 6 (pos 0)) (omega (arith, s.requires.measured.sixth)))
 
-  back-7 : to_z w64 (of_z w64 (get_or s.args.table.now 7 (pos 0))) ≡ get_or s.args.table.now 7 (pos 0)
-  back-7 = to_z-of_z (small-fits (get_or s.args.table.now 7 (pos 0)) (omega (arith, s.pre.measured.seventh)))
+  back_7 : to_z w64 (of_z w64 (get_or s.args.table.now 7 (pos 0))) ≡ get_or s.args.table.now 7 (pos 0)
+  back_7 = to_z-of_z (small_fits (get_or s.args.table.now 7 (pos 0)) (omega (arith, s.pre.measured.seventh)))
 
 element-copy-out-w6 : tie.Need-element-copy-out-w6 invariant-loop decreases-loop
 element-copy-out-w6 c = search rules
@@ -49,7 +49,7 @@ better-requires : tie.Need-better-requires invariant-loop decreases-loop
 better-requires c κs =
     let s = c.before.before.before.before.before.before in
     let l : c.before.before.loop.b < s.args.e = omega (arith, c.before.loop-test.true) in
-    simp (back-6 s, back-7 s)
+    simp (back_6 s, back_7 s)
     (s.requires.slots, ((s.requires.measured.sixth, s.requires.measured.seventh), (omega (arith, c.size_of.ensures.0, s.requires.measured.sizes c.before.before.loop.b l), omega (arith, l, s.requires.measured.low))))
 
 add-b : tie.Need-overflow-add-b invariant-loop decreases-loop
@@ -63,8 +63,8 @@ loop-again c =
     let s = c.before.before.before.before.before.before.before in
     let l = c.before.before.before.loop in
     step s.args.set.now s.args.begins.now s.args.table.now s.args.o s.args.e s.requires l.b l.best l.invariant (omega (arith, c.before.before.loop-test.true)) c.better.result
-    (c.better.ensures ∙ ap₂ (λ (u v : ℤ). betterOf s.args.set.now u v l.best c.before.size_of.result l.b) (back-6 s) (back-7 s)
-    ∙ ap (λ (n : ℕ). betterOf s.args.set.now (get_or s.args.table.now 6 (pos 0)) (get_or s.args.table.now 7 (pos 0)) l.best n l.b) c.before.size_of.ensures.0)
+    (c.better.ensures ∙ ap₂ (λ (u v : ℤ). better_of s.args.set.now u v l.best c.before.size_of.result l.b) (back_6 s) (back_7 s)
+    ∙ ap (λ (n : ℕ). better_of s.args.set.now (get_or s.args.table.now 6 (pos 0)) (get_or s.args.table.now 7 (pos 0)) l.best n l.b) c.before.size_of.ensures.0)
 
 returns : tie.Need-returns invariant-loop decreases-loop
 returns c =

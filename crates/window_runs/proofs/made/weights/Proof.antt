@@ -1,6 +1,6 @@
-use Rattle.window_runs.proofs.Grown.{within-set, within_none}
+use Rattle.window_runs.proofs.Grown.{within_set, within_none}
 use Rattle.window.specs.Key.{Within}
-use Rattle.integers.specs.Ints.{small-fits}
+use Rattle.integers.specs.Ints.{small_fits}
 use mir.Facts.{to_z-of_z}
 use lib.ListN.{length, length-set}
 use borrow.Author.Rules.{rules}
@@ -52,8 +52,8 @@ loop-less c = search rules
 loop-again : tie.Need-loop-preserved invariant-loop decreases-loop
 loop-again c =
     let l = c.before.before.before.loop in
-    rw (to_z-of_z (small-fits c.weight.result (omega (arith, c.weight.ensures))))
-    (length-set l.w l.k c.weight.result ∙ l.invariant.0, (c.before.next.ensures, within-set l.w l.k c.weight.result (omega (arith, l.invariant.0, c.before.before.loop-test.true)) l.invariant.1.1 c.weight.ensures))
+    rw (to_z-of_z (small_fits c.weight.result (omega (arith, c.weight.ensures))))
+    (length-set l.w l.k c.weight.result ∙ l.invariant.0, (c.before.next.ensures, within_set l.w l.k c.weight.result (omega (arith, l.invariant.0, c.before.before.loop-test.true)) l.invariant.1.1 c.weight.ensures))
 
 -- src/made.rt:90:1
 returns : tie.Need-returns invariant-loop decreases-loop

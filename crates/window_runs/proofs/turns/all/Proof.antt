@@ -1,4 +1,4 @@
-use Rattle.window.proofs.WindowLaws.{not-empty}
+use Rattle.window.proofs.WindowLaws.{not_empty}
 use Rattle.window.specs.Window.{state, Waiting}
 use borrow.Author.Rules.{rules}
 use native.Mathlib.Omega.{arith}
@@ -36,7 +36,7 @@ take-requires : tie.Need-take-requires invariant-loop decreases-loop
 take-requires c κs =
     let d = c.before.before.before.before.before.before.before.before.before.before.before.before.before.before.loop.invariant in (
       record { i = d.i; lo = d.lo; k = d.k; ranged = d.ranged; full = c.before.before.before.before.before.before.before.refill.ensures d.i d.lo d.k d.ranged d.windowed },
-      not-empty c.before.before.before.before.before.before.before.refill.result.nonempty c.before.before.before.before.before.before.before.refill.result.large (sym c.before.before.before.before.before.before.is-empty.ensures.0 ∙ c.before.before.before.before.before.if1.false),
+      not_empty c.before.before.before.before.before.before.before.refill.result.nonempty c.before.before.before.before.before.before.before.refill.result.large (sym c.before.before.before.before.before.before.is_empty.ensures.0 ∙ c.before.before.before.before.before.if1.false),
     )
 
 put-requires : tie.Need-put-requires invariant-loop decreases-loop
