@@ -1,4 +1,5 @@
 // The best free rotation of a bucket: the least by cost, then layout, then rotation.
+#![tactic(auto)]
 pub mod all;
 pub mod listed;
 pub mod many;
@@ -6,7 +7,7 @@ pub mod price;
 pub mod wraps;
 
 // Rotation j of layout r and what it costs; the cost is u64::MAX where nothing was found.
-#[derive(Drop)]
+#[derive(Clone, Copy)]
 pub struct Best {
     pub cost: u64,
     pub r: usize,

@@ -2,6 +2,7 @@
 // The input is the number of cases and for each: m, log2_slice_len, ll, sb, B; rule G's numbers; z and W; a count, and so many buckets with their
 // first slices; a count, and so many hashes with a seed, the bucket, the slice, the offset and the position. The file `stdin` is one case in
 // 101 of those with the fixed seed.
+#![tactic(auto)]
 ghost use Rattle.geometry.specs.Shape.{Made};
 
 use comparing::{Tally, held, number};

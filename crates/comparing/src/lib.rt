@@ -1,4 +1,5 @@
 // What the programs share that compare our answers with the Rust's: numbers read from standard input, and a tally.
+#![tactic(auto)]
 ghost use Rattle.std.specs.Prelude.{◌≡◌};
 ghost use Rattle.comparing.specs.Tallied.{tallied};
 
@@ -32,7 +33,7 @@ pub fn number() -> u64 {
 }
 
 // How many numbers were compared, and how many of them differ.
-#[derive(Drop)]
+#[derive(Clone, Copy)]
 pub struct Tally {
     pub compared: u64,
     pub differ: u64,

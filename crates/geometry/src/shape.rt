@@ -11,7 +11,7 @@ use integers::power::{next_power_of_two, power_of_two};
 use rules::Settings;
 
 // The numbers of rule G, worked out once from settings.
-#[derive(Drop)]
+#[derive(Clone, Copy)]
 pub struct Geometry {
     pub settings: Settings,
     pub l: u64,

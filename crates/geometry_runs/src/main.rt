@@ -1,4 +1,5 @@
 // Runs the checks of settings and the bucket count at each of their limits and just beside.
+#![tactic(auto)]
 use libc::STDOUT_FILENO;
 use rules::{Checked, Counted, Settings};
 

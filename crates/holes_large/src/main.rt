@@ -1,5 +1,6 @@
 // Lists the holes of a level of 134,217,728 slots, the most there can be, where standard input asks for it. Its bitmap takes 16 MiB of
 // stack, more than a program is given unasked.
+#![tactic(auto)]
 use libc::{STDIN_FILENO, STDOUT_FILENO};
 use rules::Listed;
 

@@ -1,18 +1,19 @@
 // House numbers: groups of seven bits, low group first, the top bit of a byte set while more follow.
+#![tactic(auto)]
 ghost use Rattle.std.specs.Prelude.{◌≡◌, ◌+◌, ◌≤◌, length};
 ghost use Rattle.std.proofs.lemmas.List.Edits.{sets};
 ghost use Rattle.house_numbers.specs.Encode.{encoded, encoded_next, encoded_out};
 ghost use Rattle.house_numbers.specs.Decode.{grown_by, decoded_at};
 
 // A number that is being read: the value of its groups so far, and how many they are.
-#[derive(Drop)]
+#[derive(Clone, Copy)]
 pub struct Part {
     pub value: u64,
     pub groups: u64,
 }
 
 // What one more byte makes of a part.
-#[derive(Drop)]
+#[derive(Clone, Copy)]
 pub enum Grown {
     More(Part),
     Whole(u64),
@@ -20,14 +21,14 @@ pub enum Grown {
 }
 
 // What stands at a place: a number and the place after it, or no number.
-#[derive(Drop)]
+#[derive(Clone, Copy)]
 pub enum Decoded {
     Number { value: u64, next: usize },
     Refused,
 }
 
 // The place after a number that was written, or that it has no room.
-#[derive(Drop)]
+#[derive(Clone, Copy)]
 pub enum Encoded {
     Next(usize),
     NoRoom,

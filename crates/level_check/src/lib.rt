@@ -1,4 +1,5 @@
 // The check of a finished level: seeds and bitmap, held to the settings and the grouped hashes that they were made from.
+#![tactic(auto)]
 ghost use Rattle.std.specs.Prelude.{◌≡◌, length, replicate};
 ghost use Rattle.rules.specs.Numbers.{bitmap_words};
 ghost use Rattle.geometry.specs.Shape.{Made};
@@ -19,7 +20,7 @@ use integers::power::power_of_two;
 use rules::{Named, Settings};
 
 // What a check answers.
-#[derive(Drop)]
+#[derive(Clone, Copy)]
 pub enum Matched {
     Accepted,
     Refused(u64, Named),

@@ -1,4 +1,5 @@
 // Level files: a finished level without its hashes, in house numbers.
+#![tactic(auto)]
 mod clearing;
 mod reading;
 mod writing;
@@ -11,14 +12,14 @@ pub use reading::{FileRead, read_file};
 pub use writing::{FileWritten, write_file};
 
 // A level file that is being read: its bytes, and the place of the next number.
-#[derive(Drop)]
+#[derive(Clone, Copy)]
 pub struct Reader<'a> {
     pub bytes: &'a [u8],
     pub at: usize,
 }
 
 // What stands at a place of a level file: a number and the place after it, or the number of a refusal.
-#[derive(Drop)]
+#[derive(Clone, Copy)]
 pub enum Taken {
     Number { value: u64, next: usize },
     Refused(u64),

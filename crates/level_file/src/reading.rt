@@ -14,14 +14,14 @@ use integers::power::power_of_two;
 use rules::Settings;
 
 // The settings of a file and the place after them, or the number of a refusal.
-#[derive(Drop)]
+#[derive(Clone, Copy)]
 pub enum Head {
     Settings { settings: Settings, next: usize },
     Refused(u64),
 }
 
 // What reading a file answers: its settings and how many holes it has, or the number of a refusal.
-#[derive(Drop)]
+#[derive(Clone, Copy)]
 pub enum FileRead {
     Level { settings: Settings, hole_count: u64 },
     Refused(u64),

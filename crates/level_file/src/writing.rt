@@ -12,14 +12,14 @@ use integers::power::power_of_two;
 use rules::Settings;
 
 // What writing a level answers: the file's length, or the number of a refusal.
-#[derive(Drop)]
+#[derive(Clone, Copy)]
 pub enum FileWritten {
     Length(u64),
     Refused(u64),
 }
 
 // How many bytes a part of the file takes, or that it may not be written.
-#[derive(Drop)]
+#[derive(Clone, Copy)]
 pub enum Measured {
     Bytes(usize),
     Bad,

@@ -7,7 +7,7 @@ use integers::product::mul_hi;
 use rules::Checked;
 
 // x / 2^63 * 2^e, with x from 2^63 on: a number by its leading 64 bits.
-#[derive(Drop)]
+#[derive(Clone, Copy)]
 struct Leading {
     x: u64,
     e: u64,

@@ -7,7 +7,7 @@ use integers::choice::less;
 use rules::{Counts, Listed, Named, Outcome, SweepRecord};
 
 // A record in numbers: 0 and the counts, or the number that refuses and the bucket, 2^64 - 1 for none.
-#[derive(Drop)]
+#[derive(Clone, Copy)]
 pub struct Said {
     pub number: u64,
     pub bucket: u64,

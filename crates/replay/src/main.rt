@@ -1,6 +1,7 @@
 // Replays the Rust's sweeps: reads what `oracle answered` writes (the table, the number of cases, and each case with the Rust's
 // answer, in house numbers), sweeps each case, and says how many numbers differ. Before each sweep the seeds, the bitmap and the
 // work hold rubbish. A case without room here is named, counted apart and not compared.
+#![tactic(auto)]
 mod answers;
 mod reading;
 mod rubbish;
@@ -16,7 +17,7 @@ use rules::{How, Settings};
 use sweep::sweep;
 
 // What was compared, and how many cases were too large.
-#[derive(Drop)]
+#[derive(Clone, Copy)]
 struct Replayed {
     tally: Tally,
     large: u64,

@@ -1,5 +1,6 @@
 // Two sweeps side by side, with what a change of the keys leaves as it was: early pages stay put, and the order of the
 // keys inside a bucket is free.
+#![tactic(auto)]
 ghost use Rattle.rules.specs.Numbers.{lent_of};
 ghost use Rattle.rules.specs.Order.{input_of};
 ghost use Rattle.sweep.specs.Performing.{Left};
@@ -9,7 +10,7 @@ use rules::{How, Settings, SweepRecord};
 use sweep::sweep;
 
 // What two sweeps said.
-#[derive(Drop)]
+#[derive(Clone, Copy)]
 pub struct Both {
     pub one: SweepRecord,
     pub other: SweepRecord,

@@ -18,7 +18,7 @@ use window::rule::weight_table;
 use window::{View, is_empty, refill, take};
 
 // How the turns end: all are taken, or bumping is forbidden and this bucket gets 0.
-#[derive(Drop)]
+#[derive(Clone, Copy)]
 pub enum Ended {
     All,
     At(u64),

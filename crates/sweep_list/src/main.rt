@@ -1,4 +1,5 @@
 // The sweep list program: reads standard input to its end and prints the listing.
+#![tactic(auto)]
 
 fn main() {
     let mut numbers = [0u64; 205];

@@ -8,7 +8,7 @@ use crate::rule;
 // taken looks through its untaken buckets for the next. It is told by one more than its number, and none by 0.
 
 // A bucket and its key.
-#[derive(Drop)]
+#[derive(Clone, Copy)]
 pub struct Best {
     pub bucket: usize,
     pub key: i64,

@@ -1,3 +1,4 @@
+#![tactic(auto)]
 ghost use Rattle.std.specs.Prelude.{◌≡◌, ◌&&◌, List, ℕ, ◌+◌, ◌≤◌, ◌<◌, ◌^◌, min, eqb};
 ghost use Rattle.rules.specs.Order.{Input};
 ghost use Rattle.window.specs.Queues.{queues_of};
@@ -16,7 +17,7 @@ pub mod rule;
 
 // Where the window stands: its oldest bucket, the next one to enter, the sizes below 64 that it has, and the bucket of 64
 // keys and more that goes first, told by one more than its number, with 0 for none.
-#[derive(Drop)]
+#[derive(Clone, Copy)]
 pub struct View {
     pub oldest: usize,
     pub next: usize,
@@ -25,21 +26,21 @@ pub struct View {
 }
 
 // The bucket that is taken, and where the window stands then.
-#[derive(Drop)]
+#[derive(Clone, Copy)]
 pub struct Turn {
     pub bucket: usize,
     pub view: View,
 }
 
 // What the window has: the sizes below 64, and of the buckets of 64 keys and more the one that goes first.
-#[derive(Drop)]
+#[derive(Clone, Copy)]
 pub struct Held {
     pub nonempty: u64,
     pub large: usize,
 }
 
 // A bucket that is taken, and the sizes below 64 that the window has then.
-#[derive(Drop)]
+#[derive(Clone, Copy)]
 pub struct Popped {
     pub bucket: usize,
     pub nonempty: u64,
