@@ -1,0 +1,22 @@
+-- The free words listed behind themselves are what the pass asks for, and its best is the best free rotation. Assumes nothing.
+use native.Mathlib.Omega.{arith}
+use Rattle.best.specs.Kept.{kept_on}
+use Rattle.best.proofs.AllLaws.{shift_few, pass_of, best_of_lem}
+use borrow.Author.Rules.{rules}
+use Rattle.best.proofs.all.best_all.Goals as goal
+use Rattle.best.proofs.all.best_all.Goals.{Start}
+
+pub overflow_cast-shift : goal.overflow_cast-shift
+overflow_cast-shift c = omega (arith, shift_few c.requires)
+
+pub overflow_add-shift : goal.overflow_add-shift
+overflow_add-shift c = omega (arith, shift_few c.requires)
+
+pub best_sized-best-requires : goal.best_sized-best-requires
+best_sized-best-requires c = let l = c.list_words.ensures in pass_of c.requires (λ k. (c.slice_known-1.given k).fits) l.0 l.1
+
+pub layout_of-requires : goal.layout_of-requires
+layout_of-requires c = shift_few c.requires
+
+pub returns : goal.returns
+returns c = let l = c.list_words.ensures in let p = c.best_sized-best.ensures in (best_of_lem c.requires (λ k. (c.slice_known-1.given k).fits) l.0 l.1 p c.layout_of.ensures, kept_on l.1 p.1)

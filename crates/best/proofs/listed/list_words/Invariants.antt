@@ -1,0 +1,13 @@
+-- The words passed are listed (`ListedTo`). The measure is the number of words left. Assumes nothing.
+use Prim.Native.Nat.{◌-◌}
+use native.Mathlib.Omega.{arith}
+use lib.ListN.{length-set}
+use Rattle.best.proofs.ListLaws.{ListedTo, to_none, to_room, to_more, to_end}
+use borrow.Author.Rules.{rules}
+use Rattle.best.proofs.listed.list_words.Given as goal
+
+abbrev pub invariant-loop-i : goal.invariant-loop-i
+invariant-loop-i l = ListedTo l.initial.work l.to l.bits l.list l.i l.c l.work
+
+abbrev pub decreases-loop-i : goal.decreases-loop-i
+decreases-loop-i l = l.bits - l.i

@@ -1,0 +1,10 @@
+-- The loop takes as many turns as the number read, and each asks only for `Made g`.
+use Prim.Native.Nat.{◌≤◌, ◌-◌}
+use native.Mathlib.Omega.{arith}
+use Rattle.compare_geometry.proofs.firsts.Given as goal
+
+abbrev pub invariant-loop : goal.invariant-loop
+invariant-loop l = l.counter ≤ l.end
+
+abbrev pub decreases-loop : goal.decreases-loop
+decreases-loop l = l.end - l.counter

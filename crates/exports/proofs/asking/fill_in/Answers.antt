@@ -1,0 +1,31 @@
+-- After i turns the first i slots are written, and what is written next is the slot of hash i.
+use borrow.Author.Rules.{rules}
+use mathlib.Core.Path.{◌≡◌, ap, ◌∙◌}
+use mathlib.Core.List.{List, map}
+use Prim.Native.Nat.{ℕ, ◌-◌, ◌≤◌}
+use native.Mathlib.Omega.{arith}
+use lib.ListN.{length, set}
+use lib.Seq.{paste}
+use Rattle.exports.specs.Positions.{slot_of}
+use Rattle.exports.proofs.Fill.{filled_length, filled_more, filled_all}
+use Rattle.exports.proofs.asking.fill_in.Goals as goal
+
+pub bounds-slots-i : goal.bounds-slots-i
+bounds-slots-i c =
+    let a = c.args in
+    omega (arith, ap length c.loop-i.invariant.1, filled_length (slot_of a.g.settings a.seeds.now) a.hashes.now a.slots.now c.requires.slots_len c.loop-i.i c.loop-i.invariant.0)
+
+pub loop-i-preserved : goal.loop-i-preserved
+loop-i-preserved c =
+    let a = c.args in
+    (omega arith, rw (c.loop-i.invariant.1, c.slot_in.ensures) (filled_more (slot_of a.g.settings a.seeds.now) a.hashes.now a.slots.now c.requires.slots_len c.loop-i.i (omega arith)))
+
+pub shape_of-slots : goal.shape_of-slots
+shape_of-slots c =
+    let a = c.args in
+    ap length c.loop-i.invariant.1 ∙ filled_length (slot_of a.g.settings a.seeds.now) a.hashes.now a.slots.now c.requires.slots_len c.loop-i.i c.loop-i.invariant.0
+
+pub returns : goal.returns
+returns c =
+    let a = c.args in
+    c.loop-i.invariant.1 ∙ filled_all (slot_of a.g.settings a.seeds.now) a.hashes.now a.slots.now c.requires.slots_len c.loop-i.i (omega arith)

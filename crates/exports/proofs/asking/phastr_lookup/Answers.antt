@@ -1,0 +1,18 @@
+-- Each arm tells what `lookup` says of its variant, and `lookup` says the answer.
+use borrow.Author.Rules.{rules}
+use mathlib.Core.Path.{refl}
+use Rattle.rules.specs.Answers.{said_looked}
+use Rattle.exports.specs.Told.{number_told, slot_told, slot_or}
+use Rattle.exports.proofs.asking.phastr_lookup.Goals as goal
+
+pub returns-in-Bumped : goal.returns-in-Bumped
+unfolding said_looked number_told slot_told slot_or
+returns-in-Bumped c = rw (← c.lookup.ensures, c.enum_told-1.given.1) (refl, refl)
+
+pub returns-in-At : goal.returns-in-At
+unfolding said_looked number_told slot_told slot_or
+returns-in-At c = rw (← c.lookup.ensures, c.at-1.given.1) (refl, refl)
+
+pub returns-in-Refused : goal.returns-in-Refused
+unfolding said_looked number_told slot_told
+returns-in-Refused c = rw (← c.lookup.ensures, c.number-1.given.1) (refl, refl)

@@ -1,0 +1,14 @@
+-- Each arm tells what `bucket_count` says of its variant, and `bucket_count` says the answer.
+use borrow.Author.Rules.{rules}
+use mathlib.Core.Path.{refl}
+use Rattle.rules.specs.Answers.{said_counted}
+use Rattle.exports.specs.Told.{number_told, value_told}
+use Rattle.exports.proofs.sizing.phastr_bucket_count.Goals as goal
+
+pub returns-in-Buckets : goal.returns-in-Buckets
+unfolding said_counted number_told value_told
+returns-in-Buckets c = rw (← c.bucket_count.ensures, c.n-1.given.1) (refl, refl)
+
+pub returns-in-Refused : goal.returns-in-Refused
+unfolding said_counted number_told value_told
+returns-in-Refused c = rw (← c.bucket_count.ensures, c.number-1.given.1) (refl, refl)

@@ -1,0 +1,12 @@
+use Rattle.geometry.proofs.Sizes.{sized}
+use Rattle.rules.specs.Geometry as G
+use Rattle.std.proofs.Common.{◌≡◌, ℕ, ◌*◌, ◌/◌, ◌^◌, ap, ◌∙◌, arith, rules}
+use Rattle.geometry.proofs.place.slice_of.Goals as goal
+use Rattle.geometry.proofs.place.slice_of.Goals.{Start}
+
+-- src/place.rt:20:1
+pub returns : goal.returns
+unfolding G.slice_of
+returns c =
+    let z = sized c.args.g c.requires in
+    (c.mul_hi.ensures.0 ∙ ap (λ (n : ℕ). c.args.h * n / 2 ^ 64) z.ns_is, omega (arith, c.mul_hi.ensures.2, z.ns_low))

@@ -1,0 +1,27 @@
+-- The holes at the front of the buffer. Both loops keep that what is written and what is left make the whole list: the outer one leaves the
+-- holes from word w on, the inner one the set bits of what remains of a free word before those of the next words.
+use Prim.Native.Nat.{◌≤◌, ◌<◌, ◌+◌, ◌-◌, ◌*◌, ◌^◌}
+use mathlib.Core.Path.{◌≡◌}
+use mathlib.Core.List.{◌∷◌, ◌++◌}
+use native.Mathlib.Omega.{arith}
+use lib.ListN.{length}
+use lib.Bits.{bit_and, and_le_r}
+use lib.Count.{count_trailing_zeros, trailing_le}
+use Rattle.rules.specs.Holes.{holes_of}
+use Rattle.holes.proofs.SetBits.{set_slots}
+use Rattle.holes.proofs.Walk.{rest_from, rest_all, rest_none, rest_step}
+use Rattle.holes.proofs.Filling.{Filling, fill_start, fill_restart, fill_all, fill_end, fill_room, fill_put, fill_chain, fill_slots, fill_word}
+use Rattle.holes.proofs.list_holes.Given as goal
+
+abbrev pub invariant-loop-free : goal.invariant-loop-free
+invariant-loop-free l =
+    (l.free < 2 ^ 64) × (l.initial.n ≤ l.n) × Filling (holes_of l.m l.bitmap) l.initial.out l.out l.n (set_slots (l.w * 64) 64 l.free ++ rest_from l.m l.bitmap (l.w + 1))
+
+abbrev pub decreases-loop-free : goal.decreases-loop-free
+decreases-loop-free l = l.free
+
+abbrev pub invariant-loop-w : goal.invariant-loop-w
+invariant-loop-w l = (l.w-end ≡ length l.bitmap) × (l.w ≤ l.w-end) × Filling (holes_of l.m l.bitmap) l.initial.out l.out l.n (rest_from l.m l.bitmap l.w)
+
+abbrev pub decreases-loop-w : goal.decreases-loop-w
+decreases-loop-w l = l.w-end - l.w

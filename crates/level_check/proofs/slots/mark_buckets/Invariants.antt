@@ -1,0 +1,16 @@
+-- The scratch marks what the buckets before b have met (`Walking`), so the first bucket at which a slot is met again is the lowest.
+use Rattle.level_check.proofs.Walking.{Walking, start, next, hit, done, met_bucket}
+use Rattle.level_check.specs.Check.{level_of}
+use Rattle.checks.proofs.Stray.{begun_grouped}
+use lib.ListN.{length}
+use Prim.Native.Nat.{◌-◌, ◌≤◌}
+use mathlib.Core.Path.{◌≡◌, refl, ◌∙◌}
+use native.Mathlib.Omega.{arith}
+use borrow.Author.Rules.{rules}
+use Rattle.level_check.proofs.slots.mark_buckets.Given as goal
+
+abbrev pub invariant-loop-b : goal.invariant-loop-b
+invariant-loop-b l = (l.b ≤ length l.seeds) × (length l.scratch ≡ length l.initial.scratch) × Walking (level_of l.g.settings l.hashes l.begins) l.seeds l.b l.scratch
+
+abbrev pub decreases-loop-b : goal.decreases-loop-b
+decreases-loop-b l = length l.seeds - l.b

@@ -1,0 +1,12 @@
+-- `split` takes the groups apart as `hashes_of` and `begins_of` say: each turn keeps `Splitting`. Assumes nothing.
+use Rattle.list_input.specs.SplitLaws.{Splitting, split_start, hashes_most, hash_room, split_hash, begin_room, split_count, last_room, split_hashes, split_begins, split_keys}
+use lib.ListN.{length}
+use native.Mathlib.Omega.{arith}
+use Prim.Native.Nat.{◌-◌}
+use Rattle.list_input.proofs.asked.split.Given as goal
+
+abbrev pub invariant-loop-i : goal.invariant-loop-i
+invariant-loop-i l = Splitting l.ns l.initial.hashes l.initial.begins l.hashes l.begins l.h l.b l.keys l.i
+
+abbrev pub decreases-loop-i : goal.decreases-loop-i
+decreases-loop-i l = length l.ns - l.i

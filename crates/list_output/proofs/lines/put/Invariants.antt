@@ -1,0 +1,15 @@
+-- `put` copies bytes one by one: each turn writes one piece more. Assumes nothing.
+use native.Mathlib.Nat.{add-zero}
+use Rattle.list_output.specs.Writing.{Writing, write_start, write_piece, write_text, write_end, rest_element, rest_end}
+use lib.ListN.{length, get_or, drop}
+use mathlib.Core.List.{[], ◌∷◌}
+use mathlib.Core.Path.{refl}
+use native.Mathlib.Omega.{arith}
+use Prim.Native.Nat.{◌+◌, ◌-◌, ◌≤◌}
+use Rattle.list_output.proofs.lines.put.Given as goal
+
+abbrev pub invariant-loop-i : goal.invariant-loop-i
+invariant-loop-i l = (Writing l.initial.out l.at l.text l.out (l.at + l.i) (drop l.i l.text)) × (l.i ≤ length l.text)
+
+abbrev pub decreases-loop-i : goal.decreases-loop-i
+decreases-loop-i l = length l.text - l.i

@@ -1,0 +1,19 @@
+-- `hole_lines` writes a line at each turn. Assumes nothing.
+use Rattle.list_output.specs.Writing.{Writing, write_start, write_piece, write_text, write_end}
+use Rattle.list_output.specs.TextLaws.{lines_element, lines_end}
+use Rattle.list_output.specs.Text.{hole_line}
+use Rattle.rules.specs.Lists.{concat_map}
+use lib.Seq.{sets}
+use lib.ListN.{length, get_or, drop}
+use mathlib.Core.List.{List}
+use mathlib.Core.Path.{ap, ◌∙◌}
+use borrow.Author.Rules.{rules}
+use native.Mathlib.Omega.{arith}
+use Prim.Native.Nat.{ℕ, ◌+◌, ◌*◌, ◌-◌, ◌≤◌}
+use Rattle.list_output.proofs.text.hole_lines.Given as goal
+
+abbrev pub invariant-loop-i : goal.invariant-loop-i
+invariant-loop-i l = (Writing l.initial.out l.at (concat_map hole_line l.holes) l.out l.place (concat_map hole_line (drop l.i l.holes))) × (l.i ≤ length l.holes) × (l.place ≤ l.at + 26 * l.i)
+
+abbrev pub decreases-loop-i : goal.decreases-loop-i
+decreases-loop-i l = length l.holes - l.i

@@ -1,0 +1,54 @@
+-- `finish` prints the listing of whatever bytes were fed: 18, 19 for over 205 numbers, else what the numbers kept ask for.
+-- Assumes nothing.
+use lib.Seq.{length-take-le}
+use native.Mathlib.Omega.{arith}
+use mathlib.Core.Path.{◌≡◌, refl, sym, ap, ◌∙◌}
+use Rattle.rules.specs.Answers.{named_by}
+use Rattle.listing.proofs.FedLaws.{was_false, was_true, finished_by, unformed_text, many_text, kept_text, kept_well}
+use borrow.Author.Rules.{rules}
+use Rattle.listing.proofs.finish.Goals as goal
+
+-- src/lib.rt:50:9
+pub returns-then-not-scan_ends : goal.returns-then-not-scan_ends
+unfolding named_by
+returns-then-not-scan_ends c =
+    let a = c.args in
+    let p = c.refused_text.ensures in
+    record {
+      finished = finished_by a.scan a.numbers.now a.out.now _ _ _ p.0.0 p.1 (unformed_text a.scan a.numbers.now (sym c.scan_ends.ensures ∙ was_false c.scan_ends.result c.if-not-scan_ends.true-raw));
+      upper_bound = omega (arith, p.0.1);
+    }
+
+-- src/lib.rt:53:9
+pub returns-then-count-gt205 : goal.returns-then-count-gt205
+unfolding named_by
+returns-then-count-gt205 c =
+    let a = c.args in
+    let p = c.refused_text-then-count-gt205.ensures in
+    record {
+      finished = finished_by a.scan a.numbers.now a.out.now _ _ _ p.0.0 p.1 (many_text a.scan a.numbers.now (sym c.scan_ends.ensures ∙ was_true c.scan_ends.result c.if-not-scan_ends.false-raw) c.if-count-gt205.true);
+      upper_bound = omega (arith, p.0.1);
+    }
+
+-- src/lib.rt:55:11
+pub slice_bounds-asked-end : goal.slice_bounds-asked-end
+slice_bounds-asked-end c = sym (length-take-le _ _ (omega (arith, c.if-count-gt205.false, c.requires.fed.by.size)))
+
+-- src/lib.rt:55:5
+pub asked-requires : goal.asked-requires
+asked-requires c =
+    let a = c.args in
+    record {
+      ns_value = kept_well a.scan a.numbers.now (sym c.scan_ends.ensures ∙ was_true c.scan_ends.result c.if-not-scan_ends.false-raw) c.if-count-gt205.false _ c.requires.fed.by;
+      in_bounds = c.requires.in_bounds;
+    }
+
+-- src/lib.rt:42:1
+pub returns : goal.returns
+returns c =
+    let a = c.args in
+    let p = c.asked.ensures in
+    record {
+      finished = finished_by a.scan a.numbers.now a.out.now _ _ _ p.0.0 p.1 (kept_text a.scan a.numbers.now (sym c.scan_ends.ensures ∙ was_true c.scan_ends.result c.if-not-scan_ends.false-raw) c.if-count-gt205.false);
+      upper_bound = p.0.1;
+    }

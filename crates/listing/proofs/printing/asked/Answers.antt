@@ -1,0 +1,117 @@
+-- `asked` prints `asked_text`: 19 by size, 19 by work, else the sweep of the hashes and begins at the front of its buffers.
+-- Assumes nothing.
+use lib.Seq.{sets, length-take-le}
+use Rattle.rules.specs.Answers.{named_by}
+use lib.ListN.{length, take, replicate}
+use Prim.Native.Nat.{ℕ, ◌+◌, ◌≤◌}
+use native.Mathlib.Omega.{arith}
+use mathlib.Core.Bool.{false}
+use mathlib.Core.Path.{◌≡◌, refl, sym, ap, ◌∙◌}
+use Rattle.list_input.specs.Asked.{over_size, hashes_of, begins_of}
+use Rattle.list_input.specs.AskedLaws.{long_enough, keys_most, begins_most}
+use Rattle.listing.specs.Ends.{asked_over}
+use Rattle.listing.proofs.AskedText.{few_buckets, few_slots, ends_are, long_begins, groups_are, begins_climb, text_over, text_swept}
+use Rattle.listing.proofs.PrintLaws.{front_is, sets_long}
+use borrow.Author.Rules.{rules}
+use Rattle.listing.proofs.printing.asked.Goals as goal
+use Rattle.listing.proofs.printing.asked.Goals.{After-settings_of-settings}
+
+-- src/printing.rt:134:9
+pub returns-then-over_size : goal.returns-then-over_size
+unfolding named_by
+returns-then-over_size c =
+    let p = c.refused_text.ensures in
+    let e = sym (asked_over c.args.ns.now (sym c.over_size.ensures ∙ c.if-over_size.true)) in
+    record {
+      value = (p.0.0 ∙ ap length e, omega (arith, p.0.1));
+      out_after = p.1 ∙ ap (sets c.args.out.now 0) e;
+    }
+
+-- src/printing.rt:138:9
+pub split-keys-requires : goal.split-keys-requires
+split-keys-requires c =
+    record {
+      ns_value = c.requires.ns_value;
+      ns_value_2 = sym c.over_size.ensures ∙ c.if-over_size.false;
+    }
+
+-- src/printing.rt:139:9
+pub settings_of-settings-requires : goal.settings_of-settings-requires
+settings_of-settings-requires c = long_enough _ c.requires.ns_value
+
+-- src/printing.rt:140:16
+pub overflow_add-ends : goal.overflow_add-ends
+overflow_add-ends c = omega (arith, few c)
+
+-- src/printing.rt:141:28
+pub slice_bounds-begins-end : goal.slice_bounds-begins-end
+slice_bounds-begins-end c = omega (arith, few c, room c)
+
+-- src/printing.rt:141:28
+pub slice_bounds-over_work-end : goal.slice_bounds-over_work-end
+slice_bounds-over_work-end c = sym (length-take-le _ _ (omega (arith, few (goal.at.slice_bounds-over_work-end c).After-settings_of-settings, room (goal.at.slice_bounds-over_work-end c).After-settings_of-settings)))
+
+-- src/printing.rt:141:8
+pub over_work-requires : goal.over_work-requires
+over_work-requires c =
+    let ns = c.args.ns.now in
+    record {
+      buckets_in_bounds = long_begins ns c.requires.ns_value (small (goal.at.over_work-requires c).After-settings_of-settings) _ c.settings_of-settings.ensures _ (begun (goal.at.over_work-requires c).After-settings_of-settings);
+      buckets_value = begins_climb ns c.requires.ns_value (small (goal.at.over_work-requires c).After-settings_of-settings) _ c.settings_of-settings.ensures _ (begun (goal.at.over_work-requires c).After-settings_of-settings);
+    }
+
+-- src/printing.rt:142:9
+pub returns-then-over_work : goal.returns-then-over_work
+unfolding named_by
+returns-then-over_work c =
+    let p = c.refused_text-then-over_work.ensures in
+    let e = sym (text_over c.args.ns.now c.requires.ns_value (small (goal.at.returns-then-over_work c).After-settings_of-settings) _ c.settings_of-settings.ensures _ (begun (goal.at.returns-then-over_work c).After-settings_of-settings) _ c.over_work.ensures c.if-over_work.true) in
+    record {
+      value = (p.0.0 ∙ ap length e, omega (arith, p.0.1));
+      out_after = p.1 ∙ ap (sets c.args.out.now 0) e;
+    }
+
+-- src/printing.rt:146:9
+pub weights_of-requires : goal.weights_of-requires
+weights_of-requires c = long_enough _ c.requires.ns_value
+
+-- src/printing.rt:147:9
+pub bump_of-requires : goal.bump_of-requires
+bump_of-requires c = long_enough _ c.requires.ns_value
+
+-- src/printing.rt:148:9
+pub slice_bounds-hashes-end : goal.slice_bounds-hashes-end
+slice_bounds-hashes-end c = omega (arith, hash_room (goal.at.slice_bounds-hashes-end c).After-settings_of-settings, c.split-keys.ensures.value)
+
+-- src/printing.rt:148:9
+pub slice_bounds-swept_alone-end : goal.slice_bounds-swept_alone-end
+slice_bounds-swept_alone-end c = sym (length-take-le _ _ (omega (arith, hash_room (goal.at.slice_bounds-swept_alone-end c).After-settings_of-settings, c.split-keys.ensures.value)))
+
+-- src/printing.rt:149:9
+pub slice_bounds-begins-end-2 : goal.slice_bounds-begins-end-2
+slice_bounds-begins-end-2 c = omega (arith, few (goal.at.slice_bounds-begins-end-2 c).After-settings_of-settings, room (goal.at.slice_bounds-begins-end-2 c).After-settings_of-settings)
+
+-- src/printing.rt:149:9
+pub slice_bounds-swept_alone-end-2 : goal.slice_bounds-swept_alone-end-2
+slice_bounds-swept_alone-end-2 c = sym (length-take-le _ _ (omega (arith, few (goal.at.slice_bounds-swept_alone-end-2 c).After-settings_of-settings, room (goal.at.slice_bounds-swept_alone-end-2 c).After-settings_of-settings)))
+
+-- src/printing.rt:144:5
+pub swept_alone-requires : goal.swept_alone-requires
+swept_alone-requires c =
+    let ns = c.args.ns.now in
+    let well = c.requires.ns_value in
+    let s = c.settings_of-settings.ensures in
+    record {
+      m_bound = (few_slots ns well (small (goal.at.swept_alone-requires c).After-settings_of-settings) _ s, few (goal.at.swept_alone-requires c).After-settings_of-settings, c.requires.in_bounds);
+      by_index = groups_are ns well (small (goal.at.swept_alone-requires c).After-settings_of-settings) _ s _ (begun (goal.at.swept_alone-requires c).After-settings_of-settings);
+    }
+
+-- src/printing.rt:127:1
+pub returns : goal.returns
+returns c =
+    let p = c.swept_alone.ensures in
+    let e = sym (text_swept c.args.ns.now c.requires.ns_value (small (goal.at.returns c).After-settings_of-settings) _ c.settings_of-settings.ensures _ (begun (goal.at.returns c).After-settings_of-settings) _ c.over_work.ensures c.if-over_work.false _ _ _ c.weights_of.ensures c.bump_of.ensures (hashed (goal.at.returns c).After-settings_of-settings)) in
+    record {
+      value = (p.0.0 ∙ ap length e, p.0.1);
+      out_after = p.1 ∙ ap (sets c.args.out.now 0) e;
+    }

@@ -1,0 +1,48 @@
+-- `listed` prints the sweep with the holes of its bitmap: the hole list is never refused here, and its front is `holes_of`.
+-- Assumes nothing.
+use lib.Seq.{sets}
+use lib.ListN.{length, take}
+use lib.Seq.{length-take-le}
+use Prim.Native.Nat.{ℕ, ◌≤◌}
+use native.Mathlib.Omega.{arith}
+use mathlib.Core.Path.{◌≡◌, refl, sym, ap, ◌∙◌}
+use Rattle.list_output.specs.Text.{done_text}
+use Rattle.rules.specs.declared.Listed.TheVariants as Hole
+use Rattle.rules.specs.Holes.{holes_of}
+use Rattle.listing.proofs.PrintLaws.{holes_fit, holes_count, holes_never, holes_front}
+use borrow.Author.Rules.{rules}
+use Rattle.listing.proofs.printing.listed.Goals as goal
+use Rattle.listing.proofs.printing.listed.Goals.{After-holes}
+
+-- src/printing.rt:50:55
+pub slice_bounds-slots-end : goal.slice_bounds-slots-end
+slice_bounds-slots-end c = omega (arith, room (goal.at.slice_bounds-slots-end c).After-holes, few (goal.at.slice_bounds-slots-end c).After-holes _ c.n-1.given.1)
+
+-- src/printing.rt:50:55
+pub slice_bounds-done_text-end : goal.slice_bounds-done_text-end
+slice_bounds-done_text-end c = sym (length-take-le _ _ (omega (arith, room (goal.at.slice_bounds-done_text-end c).After-holes, few (goal.at.slice_bounds-done_text-end c).After-holes _ c.n-1.given.1)))
+
+-- src/printing.rt:50:13
+pub done_text-requires : goal.done_text-requires
+done_text-requires c =
+    record {
+      holes_in_bounds = omega (arith, c.requires.le_m, front_few (goal.at.done_text-requires c).After-holes _ c.n-1.given.1);
+      by_index = c.requires.by_index;
+    }
+
+-- src/printing.rt:32:1
+pub returns-in-Holes : goal.returns-in-Holes
+returns-in-Holes c =
+    let a = c.args in
+    let p = c.done_text.ensures in
+    let e = ap (done_text a.m a.keys a.counts a.begins.now a.seeds.now) (front (goal.at.returns-in-Holes c).After-holes _ c.n-1.given.1) in
+    record {
+      value = (p.0.0 ∙ ap length e, omega (arith, c.requires.le_m, p.0.1, front_few (goal.at.returns-in-Holes c).After-holes _ c.n-1.given.1));
+      out_after = p.1 ∙ ap (sets a.out.now 0) e;
+    }
+
+-- src/printing.rt:32:1
+pub returns-in-Refused : goal.returns-in-Refused
+returns-in-Refused c =
+    let p = c.requires.le_m in
+    absurd (holes_never _ _ _ p.0 p.1 p.2 refl c.holes.result _ c.holes.ensures.answer c.n-in-Refused-1.given.1)

@@ -1,0 +1,42 @@
+-- `swept_alone` lends buffers of the lengths wanted and the house table.
+-- Assumes nothing.
+use lib.Seq.{sets}
+use lib.ListN.{length}
+use lib.Seq.{length-take-le}
+use Prim.Native.Nat.{ℕ}
+use native.Mathlib.Omega.{arith}
+use mathlib.Core.List.{List}
+use mathlib.Core.Path.{◌≡◌, refl, sym, ap, ◌∙◌}
+use Rattle.rules.specs.Order.{input_of}
+use Rattle.listing.specs.Listing.{swept_text}
+use borrow.Author.Rules.{rules}
+use Rattle.listing.proofs.printing.swept_alone.Goals as goal
+
+-- src/printing.rt:119:9
+pub slice_bounds-swept-end-2 : goal.slice_bounds-swept-end-2
+slice_bounds-swept-end-2 c = sym (length-take-le _ _ (omega arith))
+
+-- src/printing.rt:120:9
+pub slice_bounds-swept-end-3 : goal.slice_bounds-swept-end-3
+slice_bounds-swept-end-3 c = sym (length-take-le _ _ (omega arith))
+
+-- src/printing.rt:112:5
+pub swept-requires : goal.swept-requires
+swept-requires c =
+    let p = c.requires in
+    record {
+      m_bound = p.0;
+      seeds_len = (length-take-le _ _ (omega (arith, p.0)), length-take-le _ _ (omega (arith, p.0)), refl);
+      by_index = p.1;
+    }
+
+-- src/printing.rt:93:1
+pub returns : goal.returns
+returns c =
+    let a = c.args in
+    let p = c.swept.ensures in
+    let e = ap (λ (t : List ℕ). swept_text a.bump (input_of a.settings a.weights a.hashes.now a.begins.now t)) c.house-table.ensures.0 in
+    record {
+      value = (p.0.0 ∙ ap length e, p.0.1);
+      out_after = p.1 ∙ ap (sets a.out.now 0) e;
+    }

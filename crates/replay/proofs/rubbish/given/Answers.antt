@@ -1,0 +1,27 @@
+-- Each seed is read: the index stays below the length.
+use Rattle.std.proofs.Common.{◌≡◌, ◌-◌, ◌≤◌, length, arith}
+use Rattle.replay.proofs.rubbish.given.Goals as goal
+
+pub loop-i-init : goal.loop-i-init
+loop-i-init c = omega arith
+
+pub offset_bounds-xs-i : goal.offset_bounds-xs-i
+offset_bounds-xs-i c = omega arith
+
+pub bounds-xs-i : goal.bounds-xs-i
+bounds-xs-i c = omega arith
+
+pub wrapping_add_u64-wrong-requires : goal.wrapping_add_u64-wrong-requires
+wrapping_add_u64-wrong-requires c = tt
+
+pub overflow_step-i : goal.overflow_step-i
+overflow_step-i c = omega arith
+
+pub loop-i-smaller : goal.loop-i-smaller
+loop-i-smaller c = omega arith
+
+pub loop-i-preserved : goal.loop-i-preserved
+loop-i-preserved c = omega arith
+
+pub returns : goal.returns
+returns c = tt

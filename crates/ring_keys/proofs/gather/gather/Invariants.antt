@@ -1,0 +1,14 @@
+-- `gather` goes hash by hash between the two calls that begin and finish the free words; what is left is the laws of the pass.
+use Prim.Native.Nat.{◌-◌}
+use native.Mathlib.Omega.{arith}
+use borrow.Author.Rules.{rules}
+use Rattle.geometry.proofs.Sizes.{sized}
+use Rattle.ring_keys.specs.FillLaws.{layouts_are}
+use Rattle.ring_keys.specs.GatherLaws.{Gathering, gathering_none, gathering_more, ready_shape, ready_order, ready_hash, gathered}
+use Rattle.ring_keys.proofs.gather.gather.Given as goal
+
+abbrev pub invariant-loop-i : goal.invariant-loop-i
+invariant-loop-i l = Gathering l.g.settings l.ring l.hashes l.start l.at l.to l.i l.initial.work l.work
+
+abbrev pub decreases-loop-i : goal.decreases-loop-i
+decreases-loop-i l = l.size - l.i

@@ -1,0 +1,20 @@
+-- The best so far is that of the rotations below the lowest bit left (`Walk`), and the work is as it was. The measure is what is left of the word.
+-- Assumes nothing.
+use mathlib.Core.Path.{◌≡◌, refl, ◌∙◌}
+use Prim.Native.Nat.{◌+◌, ◌*◌}
+use native.Mathlib.Omega.{arith}
+use lib.Count.{count_trailing_zeros}
+use borrow.Author.Rules.{rules}
+use Rattle.words.specs.CountLaws.{clear_less}
+use Rattle.rings.specs.Keys.{cost_at}
+use Rattle.rings.specs.Parts.{part, length_part}
+use Rattle.best.specs.Walk.{Walk, walk_lt, walk_free, walk_end}
+use Rattle.search.specs.Distinct.{is_distinct}
+use Rattle.search.specs.DistinctLaws.{walk_begin, walk_step, free_turn}
+use Rattle.search.proofs.distinct.distinct_word.Given as goal
+
+abbrev pub invariant-loop-left : goal.invariant-loop-left
+invariant-loop-left l = (l.work ≡ l.initial.work) × Walk (cost_at l.g l.table (part l.initial.work l.a l.size)) (is_distinct l.g l.start (part l.initial.work l.a l.size) (part l.initial.work l.f l.count)) (part l.initial.work l.f l.count) l.r l.w l.initial.best l.left l.best
+
+abbrev pub decreases-loop-left : goal.decreases-loop-left
+decreases-loop-left l = l.left

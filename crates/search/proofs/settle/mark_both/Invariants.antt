@@ -1,0 +1,16 @@
+-- Ring and bitmap are marked key after key (`Marking`, `Mapping`), up to a key whose slot the ring has marked already; the keys lie above the ring, so no mark
+-- changes them. The measure is the number of keys left. Assumes nothing.
+use Prim.Native.Nat.{◌-◌}
+use native.Mathlib.Omega.{arith}
+use borrow.Author.Tests.{not-true, not-false}
+use Rattle.rings.specs.Parts.{part, length_part}
+use Rattle.rings.specs.PlaceLaws.{Marking, marking_none, marking_ok, marking_met, marking_more, marking_all, Mapping, mapping_none, mapping_more}
+use Rattle.search.proofs.BothLaws.{slot_is}
+use borrow.Author.Rules.{rules}
+use Rattle.search.proofs.settle.mark_both.Given as goal
+
+abbrev pub invariant-loop-i : goal.invariant-loop-i
+invariant-loop-i l = Marking l.g l.initial.work l.a l.size l.start l.j l.i l.work × Mapping l.g l.initial.bitmap (part l.initial.work l.a l.size) l.start l.j l.i l.bitmap
+
+abbrev pub decreases-loop-i : goal.decreases-loop-i
+decreases-loop-i l = l.size - l.i

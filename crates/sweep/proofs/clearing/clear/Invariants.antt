@@ -1,0 +1,14 @@
+use lib.ListN.{length, replicate, drop, set, length-set}
+use Prim.Native.Nat.{ℕ, ◌+◌, ◌-◌, ◌<◌, ◌≤◌}
+use mathlib.Core.List.{List, ◌++◌}
+use mathlib.Core.Path.{◌≡◌, refl, sym, ap, ◌∙◌}
+use native.Mathlib.Omega.{arith}
+use borrow.Author.Fill.{fill_none, fill_more}
+use borrow.Author.Rules.{rules}
+use Rattle.sweep.proofs.clearing.clear.Given as goal
+
+abbrev pub invariant-loop-i : goal.invariant-loop-i
+invariant-loop-i l = (l.i ≤ l.n) × (l.a ≡ replicate l.i 0 ++ drop l.i l.initial.a) × (length l.a ≡ length l.initial.a)
+
+abbrev pub decreases-loop-i : goal.decreases-loop-i
+decreases-loop-i l = l.n - l.i

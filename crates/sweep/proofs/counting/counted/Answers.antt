@@ -1,0 +1,40 @@
+use Rattle.sweep.proofs.CountLaws.{counted_as}
+use Rattle.sweep.proofs.CountLaws.{counts_at, counted_none, counted_zero, counted_placed, regular_grouped}
+use Rattle.sweep.specs.Counting.{Counted}
+use lib.ListN.{length, get_or}
+use Prim.Native.Nat.{ℕ, ◌+◌, ◌-◌, ◌*◌, ◌^◌, ◌<◌, ◌≤◌}
+use mathlib.Core.Logic.{⊎_elim}
+use mathlib.Core.Path.{◌≡◌, refl, sym, ap, ◌∙◌, subst}
+use native.Mathlib.Omega.{arith}
+use borrow.Author.Rules.{rules}
+use Rattle.sweep.proofs.counting.counted.Goals as goal
+
+pub loop-b-init : goal.loop-b-init
+loop-b-init c = (omega arith, counted_none _ _, omega arith, omega arith, omega arith)
+
+pub size_of-size-requires : goal.size_of-size-requires
+size_of-size-requires c = regular_grouped c.requires c.loop-b-test.true
+
+pub overflow_add-bumped : goal.overflow_add-bumped
+overflow_add-bumped c = omega (arith, c.loop-b.invariant.3, c.size_of-size.ensures.1, c.requires.few, c.loop-b-test.true)
+
+pub overflow_add-zero : goal.overflow_add-zero
+overflow_add-zero c = omega (arith, c.loop-b.invariant.4)
+
+pub overflow_add-placed : goal.overflow_add-placed
+overflow_add-placed c = omega (arith, c.loop-b.invariant.2, c.size_of-size.ensures.1, c.requires.few, c.loop-b-test.true)
+
+pub loop-b-smaller : goal.loop-b-smaller
+loop-b-smaller c = omega arith
+
+pub loop-b-preserved : goal.loop-b-preserved
+loop-b-preserved c =
+    let e = c.size_of-size.ensures.0 in
+    let s = c.size_of-size.ensures.1 in
+    ⊎_elim
+    (λ w. (omega arith, counted_as (counted_zero c.loop-b.invariant.1 e w.0.taken) w.1 w.2 w.3, omega (arith, w.1), omega (arith, w.2), omega (arith, w.3)))
+    (λ w. (omega arith, counted_as (counted_placed c.loop-b.invariant.1 e w.0.left) w.1 w.2 w.3, omega (arith, w.1), omega (arith, w.2), omega (arith, w.3)))
+    c.if-seeds-b-eq0.branch
+
+pub returns : goal.returns
+returns c = let e : c.loop-b.b ≡ length c.args.seeds.now = omega arith in subst (λ (n : ℕ). Counted c.args.begins.now c.args.seeds.now n (counts_at c.loop-b.placed c.loop-b.bumped c.loop-b.zero)) e c.loop-b.invariant.1

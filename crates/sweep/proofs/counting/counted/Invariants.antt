@@ -1,0 +1,16 @@
+use Rattle.sweep.proofs.CountLaws.{counted_as}
+use Rattle.sweep.proofs.CountLaws.{counts_at, counted_none, counted_zero, counted_placed, regular_grouped}
+use Rattle.sweep.specs.Counting.{Counted}
+use lib.ListN.{length, get_or}
+use Prim.Native.Nat.{ℕ, ◌+◌, ◌-◌, ◌*◌, ◌^◌, ◌<◌, ◌≤◌}
+use mathlib.Core.Logic.{⊎_elim}
+use mathlib.Core.Path.{◌≡◌, refl, sym, ap, ◌∙◌, subst}
+use native.Mathlib.Omega.{arith}
+use borrow.Author.Rules.{rules}
+use Rattle.sweep.proofs.counting.counted.Given as goal
+
+abbrev pub invariant-loop-b : goal.invariant-loop-b
+invariant-loop-b l = (l.b ≤ length l.seeds) × Counted l.begins l.seeds l.b (counts_at l.placed l.bumped l.zero) × (l.placed ≤ l.b * 4294967296) × (l.bumped ≤ l.b * 4294967296) × (l.zero ≤ l.b)
+
+abbrev pub decreases-loop-b : goal.decreases-loop-b
+decreases-loop-b l = length l.seeds - l.b

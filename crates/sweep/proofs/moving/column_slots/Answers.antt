@@ -1,0 +1,17 @@
+use Rattle.integers.specs.Shifts.{shl_is}
+use lib.Pow.{pow_mono}
+use Prim.Native.Nat.{ℕ, ◌*◌, ◌^◌, ◌≤◌, ◌<◌}
+use mathlib.Core.Path.{◌≡◌, sym}
+use native.Mathlib.Omega.{arith}
+use borrow.Author.Rules.{rules}
+use Rattle.sweep.proofs.moving.column_slots.Goals as goal
+use Rattle.sweep.proofs.moving.column_slots.Goals.{Start}
+
+pub overflow_shl-result : goal.overflow_shl-result
+overflow_shl-result c = omega (arith, c.requires.stride)
+
+pub returns : goal.returns
+returns c =
+    let p : 2 ^ c.args.ring.t ≤ 2 ^ 16 = pow_mono c.requires.stride in
+    let e = shl_is 64 c.args.ring.t (omega arith) in
+    (e, omega (arith, e))

@@ -1,0 +1,25 @@
+-- `run` takes range after range: before range k the turns taken are those of the first k ranges. The next has none of them, since each bucket stands in one range,
+-- and after the last they are all turns of the sweep.
+use mathlib.Core.List.{List, []}
+use mathlib.Core.Path.{◌≡◌, refl, sym, ap, ◌∙◌, subst}
+use Prim.Native.Nat.{ℕ, ◌+◌, ◌-◌, ◌*◌, ◌<◌, ◌≤◌}
+use native.Mathlib.Omega.{arith}
+use lib.ListN.{length}
+use borrow.Author.Rules.{rules}
+use Rattle.rules.specs.Good.{Moderate}
+use Rattle.rules.specs.Order.{Input, input_of}
+use Rattle.rules.specs.Chunks.{chunk_count}
+use Rattle.rules.specs.Chunks as R
+use Rattle.sweep.specs.Sweeping.{Resting}
+use Rattle.sweep.proofs.StartLaws.{rests}
+use Rattle.sweep.proofs.RunLaws.{up_to, next_range, ran_all, ran_at, span_is, span_count, span_room, rests_first, rests_more}
+use Rattle.sweep.proofs.turning.run.Given as goal
+
+abbrev pub invariant-loop-k : goal.invariant-loop-k
+invariant-loop-k l =
+    ((i : Input) (c : ℕ) → l.chunks ≡ chunk_count l.g.settings c → Resting i l.g l.bump l.hashes l.begins l.table l.by_size [] l.z l.initial.seeds l.initial.bitmap l.initial.work
+    → Resting i l.g l.bump l.hashes l.begins l.table l.by_size (up_to i (R.ranges i.settings c) l.k) l.z l.seeds l.bitmap l.work)
+    × (l.k ≤ l.ranges) × (length l.seeds ≡ length l.initial.seeds) × (length l.bitmap ≡ length l.initial.bitmap) × (length l.work ≡ length l.initial.work)
+
+abbrev pub decreases-loop-k : goal.decreases-loop-k
+decreases-loop-k l = l.ranges - l.k

@@ -1,0 +1,52 @@
+use Rattle.rules.specs.Order.{weight}
+use Rattle.words.specs.Cases.{same_or_not}
+use Rattle.integers.specs.Ints.{small_fits}
+use mir.Facts.{to_z-of_z}
+use lib.Seq.{get_or-set_same, get_or-set_other}
+use lib.ListN.{length, get_or, set, length-set}
+use lib.IntN.{ℤ, pos}
+use borrow.Author.Rules.{rules}
+use native.Mathlib.Omega.{arith}
+use Prim.Native.Nat.{ℕ, ◌+◌, ◌-◌, ◌≤◌, ◌<◌}
+use mathlib.Core.Logic.{⊎_elim}
+use mathlib.Core.List.{List}
+use mathlib.Core.Path.{◌≡◌, refl, ◌∙◌}
+use Rattle.window.proofs.rule.weight_table.Goals as goal
+
+-- the entries from 1 on and below k are there
+record Filled (ws t : List ℤ) (k : ℕ) : Type 0 where
+  from : 1 ≤ k
+  to : k ≤ 64
+  long : length t ≡ 64
+  entry : (j : ℕ) → 1 ≤ j → j < k → get_or t j (pos 0) ≡ weight ws j
+one_more : (ws t : List ℤ) (k : ℕ) (z : ℤ) → Filled ws t k → k < 64 → z ≡ weight ws k → Filled ws (set t k z) (k + 1)
+one_more ws t k z h l e =
+    record {
+      from = omega arith;
+      to = omega arith;
+      long = length-set t k z ∙ h.long;
+      entry =
+          λ j f m.
+          ⊎_elim (λ (q : j ≡ k). rw q (get_or-set_same t k z (pos 0) (omega (arith, h.long)) ∙ e))
+          (λ n. get_or-set_other t k j z (pos 0) n ∙ h.entry j f (omega arith)) (same_or_not j k);
+    }
+
+pub loop-size-init : goal.loop-size-init
+loop-size-init c = record { from = omega arith; to = omega arith; long = refl; entry = λ j l m. absurd (omega arith) }
+
+pub weight-w-requires : goal.weight-w-requires
+weight-w-requires c =
+    record {
+      le_size = (c.loop-size.invariant.from, omega arith);
+      within = c.requires;
+    }
+
+pub loop-size-preserved : goal.loop-size-preserved
+loop-size-preserved c =
+    rw (to_z-of_z (small_fits c.weight-w.result (omega (arith, c.weight-w.ensures.result_bound))))
+    (one_more c.args.weights c.loop-size.table c.loop-size.size c.weight-w.result c.loop-size.invariant c.loop-size-test.true c.weight-w.ensures.value)
+
+pub returns : goal.returns
+returns c =
+    let h = c.loop-size.invariant in
+    record { long = h.long; entry = λ k f l. h.entry k f (omega arith) }
