@@ -11,22 +11,17 @@ use borrow.Author.Count.{below_more}
 use borrow.Author.Rules.{rules}
 use Rattle.checks.proofs.heavy.Goals as goal
 
--- src/lib.rt:14:5
 pub loop-k-init : goal.loop-k-init
 loop-k-init c = (omega arith, λ b h. absurd (let z : ⊥ = omega arith in z))
 
--- src/lib.rt:17:13
 pub returns-then-w-gt4294967296 : goal.returns-then-w-gt4294967296
 returns-then-w-gt4294967296 c = ap not (sym (list_fails moderate (pos 0) c.args.t1 c.loop-k.k (omega (arith, c.well_formed.0.1.0.1)) (too_high _ c.w-1.given c.if-w-gt4294967296.true)))
 
--- src/lib.rt:20:13
 pub returns-then-w-ltminus4294967296 : goal.returns-then-w-ltminus4294967296
 returns-then-w-ltminus4294967296 c = ap not (sym (list_fails moderate (pos 0) c.args.t1 c.loop-k.k (omega (arith, c.well_formed.0.1.0.1)) (too_low _ c.w-1.given c.if-w-ltminus4294967296.true)))
 
--- src/lib.rt:14:5
 pub loop-k-preserved : goal.loop-k-preserved
 loop-k-preserved c = (omega arith, below_more _ c.loop-k.k c.loop-k.invariant.1 (within _ c.w-1.given c.if-w-gt4294967296.false c.if-w-ltminus4294967296.false))
 
--- src/lib.rt:10:1
 pub returns : goal.returns
 returns c = ap not (sym (every_list moderate (pos 0) c.args.t1 (λ k h. c.loop-k.invariant.1 k (omega (arith, c.well_formed.0.1.0.1)))))

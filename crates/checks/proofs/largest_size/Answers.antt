@@ -8,19 +8,15 @@ use native.Mathlib.Omega.{arith}
 use borrow.Author.Rules.{rules}
 use Rattle.checks.proofs.largest_size.Goals as goal
 
--- src/lib.rt:52:5
 pub loop-b-init : goal.loop-b-init
 loop-b-init c = (omega arith, largest_none _, omega arith)
 
--- src/lib.rt:53:13
 pub size_of-size-requires : goal.size_of-size-requires
 size_of-size-requires c = rising_grouped _ _ _ c.requires.buckets_in_bounds c.requires.buckets_value c.loop-b-test.true
 
--- src/lib.rt:52:5
 pub loop-b-smaller : goal.loop-b-smaller
 loop-b-smaller c = omega arith
 
--- src/lib.rt:52:5
 pub loop-b-preserved : goal.loop-b-preserved
 loop-b-preserved c =
     let e = c.size_of-size.ensures.0 in
@@ -31,6 +27,5 @@ loop-b-preserved c =
     (λ w. let z = w.1 in (omega arith, largest_next l e (omega (arith, w.0.left)), omega (arith, c.loop-b.invariant.2)))
     c.if-z-size.branch
 
--- src/lib.rt:45:1
 pub returns : goal.returns
 returns c = let e : c.loop-b.b ≡ c.args.buckets = omega arith in (subst (λ (n : ℕ). Largest c.args.begins.now n c.loop-b.z) e c.loop-b.invariant.1, c.loop-b.invariant.2)

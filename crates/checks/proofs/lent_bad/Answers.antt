@@ -3,14 +3,11 @@ use mathlib.Core.Path.{◌≡◌, refl}
 use borrow.Author.Rules.{rules}
 use Rattle.checks.proofs.lent_bad.Goals as goal
 
--- src/lib.rt:196:9
 pub returns-then-seeds-s : goal.returns-then-seeds-s
 returns-then-seeds-s c = rw (ne_eqb _ _ c.if-seeds-s.true) refl
 
--- src/lib.rt:199:9
 pub returns-then-bitmap-s : goal.returns-then-bitmap-s
 returns-then-bitmap-s c = rw (eq-eqb _ _ c.if-seeds-s.false, ne_eqb _ _ c.if-bitmap-s.true) refl
 
--- src/lib.rt:191:1
 pub returns : goal.returns
 returns c = rw (eq-eqb _ _ c.if-seeds-s.false, eq-eqb _ _ c.if-bitmap-s.false) refl

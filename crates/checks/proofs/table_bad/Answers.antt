@@ -3,10 +3,8 @@ use mathlib.Core.Path.{◌≡◌, refl, sym, ap, ◌∙◌}
 use borrow.Author.Rules.{rules}
 use Rattle.checks.proofs.table_bad.Goals as goal
 
--- src/lib.rt:71:9
 pub returns-then-table-needed : goal.returns-then-table-needed
 returns-then-table-needed c = rw (lt-ltb _ _ c.if-table-needed.true) refl
 
--- src/lib.rt:66:1
 pub returns : goal.returns
 returns c = rw (le-ltb _ _ c.if-table-needed.false) c.falls.ensures

@@ -2,6 +2,5 @@ use mathlib.Core.Path.{refl}
 use borrow.Author.Rules.{rules}
 use Rattle.groups.proofs.keys_of.Goals as goal
 
--- src/lib.rt:30:1
 pub returns : goal.returns
 returns c = rw (c.begin_of-hi.ensures.0, c.begin_of-lo.ensures.0) refl

@@ -8,7 +8,6 @@ use Rattle.listing.proofs.FedLaws.{was_false, was_true, finished_by, unformed_te
 use borrow.Author.Rules.{rules}
 use Rattle.listing.proofs.finish.Goals as goal
 
--- src/lib.rt:50:9
 pub returns-then-not-scan_ends : goal.returns-then-not-scan_ends
 unfolding named_by
 returns-then-not-scan_ends c =
@@ -19,7 +18,6 @@ returns-then-not-scan_ends c =
       upper_bound = omega (arith, p.0.1);
     }
 
--- src/lib.rt:53:9
 pub returns-then-count-gt205 : goal.returns-then-count-gt205
 unfolding named_by
 returns-then-count-gt205 c =
@@ -30,11 +28,9 @@ returns-then-count-gt205 c =
       upper_bound = omega (arith, p.0.1);
     }
 
--- src/lib.rt:55:11
 pub slice_bounds-asked-end : goal.slice_bounds-asked-end
 slice_bounds-asked-end c = sym (length-take-le _ _ (omega (arith, c.if-count-gt205.false, c.requires.fed.by.size)))
 
--- src/lib.rt:55:5
 pub asked-requires : goal.asked-requires
 asked-requires c =
     let a = c.args in
@@ -43,7 +39,6 @@ asked-requires c =
       in_bounds = c.requires.in_bounds;
     }
 
--- src/lib.rt:42:1
 pub returns : goal.returns
 returns c =
     let a = c.args in

@@ -14,15 +14,12 @@ use Rattle.listing.proofs.listing.Goals.{After-feed-scan}
 module _ (d : tie.After-feed) where
   fed : FedBy d.before.before.before.before.before.before.args.bytes.now d.feed.result d.feed.new.1.0
   fed = fed_more [] _ d.before.before.start.result _ _ _ (fed_none _ _ d.before.before.start.ensures refl) d.feed.ensures.0 d.feed.ensures.1
--- src/lib.rt:64:9
 pub returns-then-out-lt32768 : goal.returns-then-out-lt32768
 returns-then-out-lt32768 c = record { count = λ h. absurd (omega (arith, c.if-out-lt32768.true)); text = λ h. absurd (omega (arith, c.if-out-lt32768.true)); none = λ h. refl; kept = λ h. refl }
 
--- src/lib.rt:68:18
 pub slice_bounds-finish-end : goal.slice_bounds-finish-end
 slice_bounds-finish-end c = sym (fed (goal.at.slice_bounds-finish-end c).After-feed-scan).size
 
--- src/lib.rt:68:5
 pub finish-requires : goal.finish-requires
 finish-requires c =
     record {
@@ -30,7 +27,6 @@ finish-requires c =
       in_bounds = c.if-out-lt32768.false;
     }
 
--- src/lib.rt:60:1
 pub returns : goal.returns
 returns c =
     let f = c.finish.ensures.finished in

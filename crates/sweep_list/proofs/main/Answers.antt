@@ -17,23 +17,18 @@ use Rattle.sweep_list.proofs.main.Goals as goal
 fed_on : (chunk : List ℕ) (s t : Scan) (ns after : List ℕ) → Fed s ns → t ≡ fed_scan s chunk → after ≡ fed_numbers s ns chunk → Fed t after
 fed_on chunk s t ns after f e g = record { bytes = f.bytes ++ chunk; by = fed_more f.bytes chunk s t ns after f.by e g }
 
--- src/main.rt:10:5
 pub loop-turns-init : goal.loop-turns-init
 loop-turns-init c = (record { bytes = []; by = fed_none _ _ c.start-scan.ensures refl }, sym c.large_buffer-buffer.ensures)
 
--- src/main.rt:16:53
 pub slice_bounds-feed-end : goal.slice_bounds-feed-end
 slice_bounds-feed-end c = sym (length-take-le _ _ (search rules))
 
--- src/main.rt:10:5
 pub loop-turns-preserved : goal.loop-turns-preserved
 loop-turns-preserved c = (fed_on _ _ _ _ _ c.loop-turns.invariant.0 c.feed-scan.ensures.value c.feed-scan.ensures.numbers_after, c.read-got.auto.buf ∙ c.loop-turns.invariant.1)
 
--- src/main.rt:20:37
 pub slice_bounds-finish-end : goal.slice_bounds-finish-end
 slice_bounds-finish-end c = sym c.loop-turns.invariant.0.by.size
 
--- src/main.rt:20:9
 pub finish-end-requires : goal.finish-end-requires
 finish-end-requires c =
     record {
@@ -41,10 +36,8 @@ finish-end-requires c =
       in_bounds = omega (arith, c.large_buffer-out.ensures);
     }
 
--- src/main.rt:21:22
 pub slice_bounds-out-end : goal.slice_bounds-out-end
 slice_bounds-out-end c = omega (arith, c.finish-end.ensures.upper_bound, c.finish-end.auto.out, c.large_buffer-out.ensures)
 
--- src/main.rt:21:22
 pub slice_bounds-write_all-end : goal.slice_bounds-write_all-end
 slice_bounds-write_all-end c = sym (length-take-le _ _ (omega (arith, c.finish-end.ensures.upper_bound, c.finish-end.auto.out, c.large_buffer-out.ensures)))

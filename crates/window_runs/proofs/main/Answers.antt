@@ -3,7 +3,6 @@ use native.Mathlib.Omega.{arith}
 use borrow.Author.Rules.{rules}
 use Rattle.window_runs.proofs.main.Goals as goal
 
--- src/main.rt:30:13
 pub case-requires : goal.case-requires
 case-requires c =
     (omega (arith, c.loop-seed-test.true), (c.loop-kind-test.true, (omega arith, omega arith)))

@@ -31,49 +31,40 @@ size_is c = sizes c.size_cap-cap.result c.args.size (fits_by c.size_cap-cap.resu
 quotient : (c : goal.Else-k-gt67108864) → div binary64 (of_int binary64 (pos c.args.k)) c.args.size ≡ quotient_float c.args.k c.args.size
 quotient c = quotient_is c.args.k c.args.size c.if-k-gt67108864.false (size_is c).above
 
--- src/count.rt:41:9
 pub returns-then-log2_slice_len-lt3 : goal.returns-then-log2_slice_len-lt3
 unfolding said_counted count_answer unless first_of count_lines line3
 returns-then-log2_slice_len-lt3 c = rw (lt-ltb _ _ c.if-log2_slice_len-lt3.true) refl
 
--- src/count.rt:44:9
 pub returns-then-log2_slice_len-gt16 : goal.returns-then-log2_slice_len-gt16
 unfolding said_counted count_answer unless first_of count_lines line3
 returns-then-log2_slice_len-gt16 c = rw (le-ltb _ _ c.if-log2_slice_len-lt3.false, lt-ltb _ _ c.if-log2_slice_len-gt16.true) refl
 
--- src/count.rt:46:15
 pub int_to_float-cap : goal.int_to_float-cap
 unfolding in_float
 int_to_float-cap c = le→leb c.size_cap-cap.result 9007199254740992 (le_trans c.size_cap-cap.ensures.1 (lit≤ tt))
 
--- src/count.rt:48:9
 pub returns-then-not-size : goal.returns-then-not-size
 unfolding said_counted unless
 returns-then-not-size c =
     sym (past3 (goal.at.returns-then-not-size c).Else-log2_slice_len-gt16 ∙ (rw (test (goal.at.returns-then-not-size c).After-size_cap-cap, c.if-not-size.true-raw) refl))
 
--- src/count.rt:51:9
 pub returns-then-not-size-cap : goal.returns-then-not-size-cap
 unfolding said_counted unless
 returns-then-not-size-cap c =
     sym (past3 (goal.at.returns-then-not-size-cap c).Else-log2_slice_len-gt16 ∙ (rw (test (goal.at.returns-then-not-size-cap c).After-size_cap-cap, c.if-not-size.false-raw, c.if-not-size-cap.true-raw) refl))
 
--- src/count.rt:54:9
 pub returns-then-k-gt67108864 : goal.returns-then-k-gt67108864
 unfolding said_counted unless
 returns-then-k-gt67108864 c = sym (past16 (goal.at.returns-then-k-gt67108864 c).Else-not-size-cap ∙ (rw (lt-ltb _ _ c.if-k-gt67108864.true) refl))
 
--- src/count.rt:56:38
 pub int_to_float-k : goal.int_to_float-k
 unfolding in_float
 int_to_float-k c = le→leb c.args.k 9007199254740992 (le_trans c.if-k-gt67108864.false (lit≤ tt))
 
--- src/count.rt:56:29
 pub rounded-requires : goal.rounded-requires
 rounded-requires c =
     subst Small (sym (quotient (goal.at.rounded-requires c).Else-k-gt67108864)) (quotient_small c.args.k c.size_cap-cap.result c.args.size c.if-k-gt67108864.false c.size_cap-cap.ensures.1 (size_is (goal.at.rounded-requires c).Else-k-gt67108864))
 
--- src/count.rt:37:1
 pub returns : goal.returns
 unfolding said_counted unless buckets_for
 returns c =

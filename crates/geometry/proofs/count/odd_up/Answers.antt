@@ -3,12 +3,10 @@ use Rattle.std.proofs.Common.{◌≡◌, sym, ap, arith, rules}
 use native.Mathlib.Nat.{max-eq_right}
 use Rattle.geometry.proofs.count.odd_up.Goals as goal
 
--- src/count.rt:29:1
 pub returns-then-n-eq0 : goal.returns-then-n-eq0
 unfolding odd_up
 returns-then-n-eq0 c = rw c.if-n-eq0.true
 
--- src/count.rt:29:1
 pub returns-else-n-eq0 : goal.returns-else-n-eq0
 unfolding odd_up
 returns-else-n-eq0 c = sym (ap odd_up (max-eq_right {n = 1} {m = c.args.n} (omega arith)))

@@ -25,15 +25,12 @@ upto c =
 small : (c : goal.Start) → c.args.b * c.args.g.q_hi + c.args.b * c.args.g.q_lo / 2 ^ 64 ≤ 134217728
 small c = omega (arith, upto c, (sized c.args.g c.requires.made).ns_high)
 
--- src/place.rt:41:5
 pub overflow_mul-result : goal.overflow_mul-result
 overflow_mul-result c = left_fits (c.args.b * c.args.g.q_hi) (c.args.b * c.args.g.q_lo / 2 ^ 64) (small (goal.at.overflow_mul-result c).Start)
 
--- src/place.rt:41:5
 pub overflow_add-result : goal.overflow_add-result
 overflow_add-result c = omega (arith, small (goal.at.overflow_add-result c).Start, c.mul_hi.ensures.0)
 
--- src/place.rt:36:1
 pub returns : goal.returns
 returns c =
     let a = c.args in

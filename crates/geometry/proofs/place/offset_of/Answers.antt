@@ -2,7 +2,6 @@ use Rattle.rules.specs.Geometry as G
 use Rattle.std.proofs.Common.{rules}
 use Rattle.geometry.proofs.place.offset_of.Goals as goal
 
--- src/place.rt:28:1
 pub returns : goal.returns
 unfolding G.offset_of
 returns c = c.mul_lo.ensures

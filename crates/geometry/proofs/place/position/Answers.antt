@@ -47,37 +47,29 @@ whole c o sl eo es =
     let e4 = z.l_is in
     ap (λ (n : ℕ). sl + n) (inner_is c o) ∙ cc
 
--- src/place.rt:49:16
 pub overflow_sub-mask : goal.overflow_sub-mask
 overflow_sub-mask c = (size (goal.at.overflow_sub-mask c).Start).l_low
 
--- src/place.rt:51:18
 pub overflow_sub-r : goal.overflow_sub-r
 overflow_sub-r c = (size (goal.at.overflow_sub-r c).Start).layouts_low
 
--- src/place.rt:52:34
 pub overflow_mul-x : goal.overflow_mul-x
 overflow_mul-x c = omega (arith, shift_small (goal.at.overflow_mul-x c).Start)
 
--- src/place.rt:52:14
 pub overflow_shr-x : goal.overflow_shr-x
 overflow_shr-x c = shift_small (goal.at.overflow_shr-x c).Start
 
--- src/place.rt:53:29
 pub overflow_shl-result : goal.overflow_shl-result
 overflow_shl-result c = omega (arith, (size (goal.at.overflow_shl-result c).Start).scale_high)
 
--- src/place.rt:53:24
 pub overflow_add-result : goal.overflow_add-result
 overflow_add-result c =
     omega (arith, and_le_r (c.offset_of.result / 2 ^ (layout (goal.at.overflow_add-result c).Start * c.args.g.layout_bits)) (c.args.g.l - 1), (size (goal.at.overflow_add-result c).Start).l_high, seed_small (goal.at.overflow_add-result c).Start, mod-eq_of_lt {n = c.args.seed * 2 ^ c.args.g.scale} {m = 2 ^ 64} (omega (arith, seed_small (goal.at.overflow_add-result c).Start)))
 
--- src/place.rt:53:5
 pub overflow_add-result-2 : goal.overflow_add-result-2
 overflow_add-result-2 c =
     omega (arith, c.slice_of.ensures.1, (size (goal.at.overflow_add-result-2 c).Start).ns_high, and_le_r (inner (goal.at.overflow_add-result-2 c).Start c.offset_of.result) (c.args.g.l - 1), (size (goal.at.overflow_add-result-2 c).Start).l_high)
 
--- src/place.rt:45:1
 pub returns : goal.returns
 returns c =
     let e = whole (goal.at.returns c).Start c.offset_of.result c.slice_of.result c.offset_of.ensures c.slice_of.ensures.0 in

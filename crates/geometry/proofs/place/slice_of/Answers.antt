@@ -4,7 +4,6 @@ use Rattle.std.proofs.Common.{◌≡◌, ℕ, ◌*◌, ◌/◌, ◌^◌, ap, ◌
 use Rattle.geometry.proofs.place.slice_of.Goals as goal
 use Rattle.geometry.proofs.place.slice_of.Goals.{Start}
 
--- src/place.rt:20:1
 pub returns : goal.returns
 unfolding G.slice_of
 returns c =

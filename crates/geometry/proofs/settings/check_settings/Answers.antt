@@ -8,12 +8,10 @@ unfolding unless
 refused zero a h = absurd (h refl)
 refused (suc n) a h = refl
 
--- src/settings.rt:112:9
 pub returns-then-n-eq0 : goal.returns-then-n-eq0
 unfolding said_checked settings_answer unless
 returns-then-n-eq0 c = rw (sym c.number_to_7-n.ensures.0, c.if-n-eq0.true) refl
 
--- src/settings.rt:107:1
 pub returns : goal.returns
 unfolding said_checked settings_answer
 returns c = refused c.number_to_7-n.result (Answer []) c.if-n-eq0.false ∙ ap (λ (n : ℕ). unless n (Answer [])) c.number_to_7-n.ensures.0

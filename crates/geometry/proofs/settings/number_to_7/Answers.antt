@@ -5,7 +5,6 @@ use Rattle.std.proofs.Common.{◌≡◌, [], ◌∷◌, sym, refl, ap, ◌∙◌
 use Rattle.geometry.proofs.settings.number_to_7.Goals as goal
 use Rattle.geometry.proofs.settings.number_to_7.Goals.{Else-n-ne0}
 
--- src/settings.rt:98:9
 pub returns-then-n-ne0 : goal.returns-then-n-ne0
 unfolding lines_to7
 returns-then-n-ne0 c =
@@ -13,16 +12,13 @@ returns-then-n-ne0 c =
     let e = c.number_to_6-n.ensures.0 in
     (e ∙ sym (first_append_some (lines_to6 s) (line7 s ∷ []) (λ z. c.if-n-ne0.true (e ∙ z))), omega (arith, c.number_to_6-n.ensures.1))
 
--- src/settings.rt:100:15
 pub per_bucket-requires : goal.per_bucket-requires
 per_bucket-requires c = passes_6 c.args.s (none c)
 
--- src/settings.rt:101:9
 pub returns-then-per_bucket-gt4096 : goal.returns-then-per_bucket-gt4096
 unfolding first_of line7
 returns-then-per_bucket-gt4096 c = (sym (rest (goal.at.returns-then-per_bucket-gt4096 c).Else-n-ne0 ∙ (rw (lt-ltb _ _ (rw c.per_bucket.ensures.0 at c.if-per_bucket-gt4096.true)) refl)), omega arith)
 
--- src/settings.rt:93:1
 pub returns : goal.returns
 unfolding first_of line7
 returns c = (sym (rest (goal.at.returns c).Else-n-ne0 ∙ (rw (le-ltb _ _ (rw c.per_bucket.ensures.0 at c.if-per_bucket-gt4096.false)) refl)), omega arith)

@@ -2,7 +2,6 @@ use Rattle.rules.specs.Geometry.{per_bucket}
 use Rattle.std.proofs.Common.{◌≡◌, ℕ, ◌+◌, ◌-◌, ◌/◌, sym, refl, ap, ◌∙◌, lt_of_le_of_lt, div-le_self, arith, rules}
 use Rattle.geometry.proofs.settings.per_bucket.Goals as goal
 
--- src/settings.rt:84:1
 pub returns : goal.returns
 unfolding per_bucket
 returns c =

@@ -2,7 +2,6 @@ use Rattle.rules.specs.Geometry.{slices}
 use Rattle.std.proofs.Common.{◌≡◌, ℕ, ◌+◌, ◌-◌, sym, refl, ap, ◌∙◌, arith, rules}
 use Rattle.geometry.proofs.settings.slice_count.Goals as goal
 
--- src/settings.rt:76:1
 pub returns : goal.returns
 unfolding slices
 returns c = (ap (λ (l : ℕ). c.args.s.m + 1 - l) c.slice_len.ensures.0, omega arith, omega arith)

@@ -2,7 +2,6 @@ use Rattle.rules.proofs.GeometryLaws.{len_pow, len_le_m}
 use Rattle.std.proofs.Common.{◌≡◌, ℕ, ◌^◌, sym, refl, ap, ◌∙◌, arith, rules}
 use Rattle.geometry.proofs.settings.slice_len.Goals as goal
 
--- src/settings.rt:68:1
 pub returns : goal.returns
 returns c =
     let e = c.power_of_two.ensures.0 ∙ ap (λ (k : ℕ). 2 ^ k) c.log2_len.ensures.0 ∙ sym (len_pow c.args.s) in

@@ -13,18 +13,14 @@ upper c = part_lt c.args.r (2 ^ 32) c.args.b c.requires.0 (pow_pos 32)
 lower : (c : goal.Start) → c.args.r * 2 ^ 32 % c.args.b * 2 ^ 32 / c.args.b < 2 ^ 32
 lower c = part_lt (c.args.r * 2 ^ 32 % c.args.b) (2 ^ 32) c.args.b (left c) (pow_pos 32)
 
--- src/shape.rt:53:13
 pub overflow_mul-y : goal.overflow_mul-y
 overflow_mul-y c = omega (arith, left (goal.at.overflow_mul-y c).Start)
 
--- src/shape.rt:54:5
 pub overflow_mul-result : goal.overflow_mul-result
 overflow_mul-result c = omega (arith, upper (goal.at.overflow_mul-result c).Start)
 
--- src/shape.rt:54:5
 pub overflow_add-result : goal.overflow_add-result
 overflow_add-result c = omega (arith, upper (goal.at.overflow_add-result c).Start, lower (goal.at.overflow_add-result c).Start)
 
--- src/shape.rt:48:1
 pub returns : goal.returns
 returns c = two_digits c.args.r (2 ^ 32) c.args.b (omega arith)

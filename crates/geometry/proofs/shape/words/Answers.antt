@@ -6,27 +6,21 @@ use Rattle.geometry.proofs.shape.words.Goals.{After-larger-n}
 bounds : (c : goal.After-larger-n) → (c.args.z * (c.args.layouts + 2) ≤ 4096 * 66) × (3 * c.args.layouts * c.larger-n.result ≤ 192 * 65536)
 bounds c = (mul-le-mul {n₁ = c.args.z} {m₁ = c.args.layouts + 2} {n₂ = 4096} {m₂ = 66} (omega arith) (omega arith), mul-le-mul {n₁ = 3 * c.args.layouts} {m₁ = c.larger-n.result} {n₂ = 192} {m₂ = 65536} (omega arith) (omega arith))
 
--- src/shape.rt:116:18
 pub overflow_mul-result : goal.overflow_mul-result
 overflow_mul-result c = omega (arith, bounds (goal.at.overflow_mul-result c).After-larger-n)
 
--- src/shape.rt:116:5
 pub overflow_add-result-2 : goal.overflow_add-result-2
 overflow_add-result-2 c = omega (arith, bounds (goal.at.overflow_add-result-2 c).After-larger-n)
 
--- src/shape.rt:116:38
 pub overflow_mul-result-3 : goal.overflow_mul-result-3
 overflow_mul-result-3 c = omega (arith, bounds (goal.at.overflow_mul-result-3 c).After-larger-n)
 
--- src/shape.rt:116:5
 pub overflow_add-result-3 : goal.overflow_add-result-3
 overflow_add-result-3 c = omega (arith, bounds (goal.at.overflow_add-result-3 c).After-larger-n)
 
--- src/shape.rt:116:5
 pub overflow_add-result-4 : goal.overflow_add-result-4
 overflow_add-result-4 c = omega (arith, bounds (goal.at.overflow_add-result-4 c).After-larger-n)
 
--- src/shape.rt:111:1
 pub returns : goal.returns
 returns c =
     let a = c.args in

@@ -3,11 +3,9 @@ use Rattle.rules.specs.Geometry as G
 use Rattle.std.proofs.Common.{◌≡◌, ℕ, ◌+◌, ◌*◌, ◌/◌, ◌^◌, max, sym, refl, ap, ◌∙◌, arith}
 use Rattle.geometry.proofs.shape.work_words.Goals as goal
 
--- src/shape.rt:124:5
 pub words-requires : goal.words-requires
 words-requires c = let s = sized c.args.g c.requires.made in (s.slots_high, omega arith, omega arith, omega arith)
 
--- src/shape.rt:119:1
 pub returns : goal.returns
 unfolding G.work_words G.layouts
 returns c =

@@ -16,7 +16,6 @@ use borrow.Author.Rules.{rules}
 use Rattle.listing.proofs.printing.asked.Goals as goal
 use Rattle.listing.proofs.printing.asked.Goals.{After-settings_of-settings}
 
--- src/printing.rt:134:9
 pub returns-then-over_size : goal.returns-then-over_size
 unfolding named_by
 returns-then-over_size c =
@@ -27,7 +26,6 @@ returns-then-over_size c =
       out_after = p.1 ∙ ap (sets c.args.out.now 0) e;
     }
 
--- src/printing.rt:138:9
 pub split-keys-requires : goal.split-keys-requires
 split-keys-requires c =
     record {
@@ -35,23 +33,18 @@ split-keys-requires c =
       ns_value_2 = sym c.over_size.ensures ∙ c.if-over_size.false;
     }
 
--- src/printing.rt:139:9
 pub settings_of-settings-requires : goal.settings_of-settings-requires
 settings_of-settings-requires c = long_enough _ c.requires.ns_value
 
--- src/printing.rt:140:16
 pub overflow_add-ends : goal.overflow_add-ends
 overflow_add-ends c = omega (arith, few c)
 
--- src/printing.rt:141:28
 pub slice_bounds-begins-end : goal.slice_bounds-begins-end
 slice_bounds-begins-end c = omega (arith, few c, room c)
 
--- src/printing.rt:141:28
 pub slice_bounds-over_work-end : goal.slice_bounds-over_work-end
 slice_bounds-over_work-end c = sym (length-take-le _ _ (omega (arith, few (goal.at.slice_bounds-over_work-end c).After-settings_of-settings, room (goal.at.slice_bounds-over_work-end c).After-settings_of-settings)))
 
--- src/printing.rt:141:8
 pub over_work-requires : goal.over_work-requires
 over_work-requires c =
     let ns = c.args.ns.now in
@@ -60,7 +53,6 @@ over_work-requires c =
       buckets_value = begins_climb ns c.requires.ns_value (small (goal.at.over_work-requires c).After-settings_of-settings) _ c.settings_of-settings.ensures _ (begun (goal.at.over_work-requires c).After-settings_of-settings);
     }
 
--- src/printing.rt:142:9
 pub returns-then-over_work : goal.returns-then-over_work
 unfolding named_by
 returns-then-over_work c =
@@ -71,31 +63,24 @@ returns-then-over_work c =
       out_after = p.1 ∙ ap (sets c.args.out.now 0) e;
     }
 
--- src/printing.rt:146:9
 pub weights_of-requires : goal.weights_of-requires
 weights_of-requires c = long_enough _ c.requires.ns_value
 
--- src/printing.rt:147:9
 pub bump_of-requires : goal.bump_of-requires
 bump_of-requires c = long_enough _ c.requires.ns_value
 
--- src/printing.rt:148:9
 pub slice_bounds-hashes-end : goal.slice_bounds-hashes-end
 slice_bounds-hashes-end c = omega (arith, hash_room (goal.at.slice_bounds-hashes-end c).After-settings_of-settings, c.split-keys.ensures.value)
 
--- src/printing.rt:148:9
 pub slice_bounds-swept_alone-end : goal.slice_bounds-swept_alone-end
 slice_bounds-swept_alone-end c = sym (length-take-le _ _ (omega (arith, hash_room (goal.at.slice_bounds-swept_alone-end c).After-settings_of-settings, c.split-keys.ensures.value)))
 
--- src/printing.rt:149:9
 pub slice_bounds-begins-end-2 : goal.slice_bounds-begins-end-2
 slice_bounds-begins-end-2 c = omega (arith, few (goal.at.slice_bounds-begins-end-2 c).After-settings_of-settings, room (goal.at.slice_bounds-begins-end-2 c).After-settings_of-settings)
 
--- src/printing.rt:149:9
 pub slice_bounds-swept_alone-end-2 : goal.slice_bounds-swept_alone-end-2
 slice_bounds-swept_alone-end-2 c = sym (length-take-le _ _ (omega (arith, few (goal.at.slice_bounds-swept_alone-end-2 c).After-settings_of-settings, room (goal.at.slice_bounds-swept_alone-end-2 c).After-settings_of-settings)))
 
--- src/printing.rt:144:5
 pub swept_alone-requires : goal.swept_alone-requires
 swept_alone-requires c =
     let ns = c.args.ns.now in
@@ -106,7 +91,6 @@ swept_alone-requires c =
       by_index = groups_are ns well (small (goal.at.swept_alone-requires c).After-settings_of-settings) _ s _ (begun (goal.at.swept_alone-requires c).After-settings_of-settings);
     }
 
--- src/printing.rt:127:1
 pub returns : goal.returns
 returns c =
     let p = c.swept_alone.ensures in

@@ -14,15 +14,12 @@ use borrow.Author.Rules.{rules}
 use Rattle.listing.proofs.printing.listed.Goals as goal
 use Rattle.listing.proofs.printing.listed.Goals.{After-holes}
 
--- src/printing.rt:50:55
 pub slice_bounds-slots-end : goal.slice_bounds-slots-end
 slice_bounds-slots-end c = omega (arith, room (goal.at.slice_bounds-slots-end c).After-holes, few (goal.at.slice_bounds-slots-end c).After-holes _ c.n-1.given.1)
 
--- src/printing.rt:50:55
 pub slice_bounds-done_text-end : goal.slice_bounds-done_text-end
 slice_bounds-done_text-end c = sym (length-take-le _ _ (omega (arith, room (goal.at.slice_bounds-done_text-end c).After-holes, few (goal.at.slice_bounds-done_text-end c).After-holes _ c.n-1.given.1)))
 
--- src/printing.rt:50:13
 pub done_text-requires : goal.done_text-requires
 done_text-requires c =
     record {
@@ -30,7 +27,6 @@ done_text-requires c =
       by_index = c.requires.by_index;
     }
 
--- src/printing.rt:32:1
 pub returns-in-Holes : goal.returns-in-Holes
 returns-in-Holes c =
     let a = c.args in
@@ -41,7 +37,6 @@ returns-in-Holes c =
       out_after = p.1 ∙ ap (sets a.out.now 0) e;
     }
 
--- src/printing.rt:32:1
 pub returns-in-Refused : goal.returns-in-Refused
 returns-in-Refused c =
     let p = c.requires.le_m in

@@ -15,7 +15,6 @@ use borrow.Author.Rules.{rules}
 use Rattle.listing.proofs.printing.swept.Goals as goal
 use Rattle.listing.proofs.printing.swept.Goals.{After-sweep-arg-2-1, After-sweep-r}
 
--- src/printing.rt:80:34
 pub listed-requires : goal.listed-requires
 listed-requires c =
     let p = c.requires in
@@ -25,7 +24,6 @@ listed-requires c =
       by_index = λ b h. p.1.1 b (omega (arith, k, h));
     }
 
--- src/printing.rt:58:1
 pub returns-in-Refused : goal.returns-in-Refused
 returns-in-Refused c =
     let p = c.refused_text.ensures in
@@ -35,7 +33,6 @@ returns-in-Refused c =
       out_after = p.1 ∙ ap (sets c.args.out.now 0) e;
     }
 
--- src/printing.rt:58:1
 pub returns-in-Done : goal.returns-in-Done
 returns-in-Done c =
     let p = c.listed.ensures in

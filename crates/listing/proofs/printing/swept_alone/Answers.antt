@@ -12,15 +12,12 @@ use Rattle.listing.specs.Listing.{swept_text}
 use borrow.Author.Rules.{rules}
 use Rattle.listing.proofs.printing.swept_alone.Goals as goal
 
--- src/printing.rt:119:9
 pub slice_bounds-swept-end-2 : goal.slice_bounds-swept-end-2
 slice_bounds-swept-end-2 c = sym (length-take-le _ _ (omega arith))
 
--- src/printing.rt:120:9
 pub slice_bounds-swept-end-3 : goal.slice_bounds-swept-end-3
 slice_bounds-swept-end-3 c = sym (length-take-le _ _ (omega arith))
 
--- src/printing.rt:112:5
 pub swept-requires : goal.swept-requires
 swept-requires c =
     let p = c.requires in
@@ -30,7 +27,6 @@ swept-requires c =
       by_index = p.1;
     }
 
--- src/printing.rt:93:1
 pub returns : goal.returns
 returns c =
     let a = c.args in

@@ -9,20 +9,16 @@ use Prim.Native.Nat.{◌-◌, ◌<◌}
 use mathlib.Core.Path.{◌≡◌, refl, ◌∙◌}
 use Rattle.window_runs.proofs.made.weights.Goals as goal
 
--- src/made.rt:97:5
 pub loop-k-init : goal.loop-k-init
 loop-k-init c = (refl, (omega (arith, c.requires), within_none))
 
--- src/made.rt:98:9
 pub next-x-requires : goal.next-x-requires
 next-x-requires c = c.loop-k.invariant.1.0
 
--- src/made.rt:97:5
 pub loop-k-preserved : goal.loop-k-preserved
 loop-k-preserved c =
     rw (to_z-of_z (small_fits c.weight-v.result (omega (arith, c.weight-v.ensures))))
     (length-set c.loop-k.w c.loop-k.k c.weight-v.result ∙ c.loop-k.invariant.0, (c.next-x.ensures, within_set c.loop-k.w c.loop-k.k c.weight-v.result (omega (arith, c.loop-k.invariant.0, c.loop-k-test.true)) c.loop-k.invariant.1.1 c.weight-v.ensures))
 
--- src/made.rt:90:1
 pub returns : goal.returns
 returns c = c.loop-k.invariant.1.1
