@@ -1,5 +1,6 @@
 // What the programs share that compare our answers with the Rust's: numbers read from standard input, and a tally.
 #![tactic(auto)]
+
 ghost use Rattle.std.specs.Prelude.{◌≡◌};
 ghost use Rattle.comparing.specs.Tallied.{tallied};
 

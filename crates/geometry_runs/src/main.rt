@@ -1,11 +1,10 @@
 // Runs the checks of settings and the bucket count at each of their limits and just beside.
 #![tactic(auto)]
-use libc::STDOUT_FILENO;
 use rules::{Checked, Counted, Settings};
 
 fn number(n: u64) {
-    io::print_decimal(STDOUT_FILENO, n);
-    io::write_all(STDOUT_FILENO, b" ");
+    io::print_decimal(1, n);
+    io::write_all(1, b" ");
 }
 
 // One line: the settings, and `fine` or the number that refuses them.
@@ -24,12 +23,12 @@ fn settings(m: u64, log2_slice_len: u64, ll: u64, sb: u64, buckets: u64) {
     };
     match geometry::settings::check_settings(s) {
         Checked::Fine => {
-            io::write_all(STDOUT_FILENO, b"fine\n");
+            io::write_all(1, b"fine\n");
         }
         Checked::Refused(n) => {
-            io::write_all(STDOUT_FILENO, b"refused ");
-            io::print_decimal(STDOUT_FILENO, n);
-            io::write_all(STDOUT_FILENO, b"\n");
+            io::write_all(1, b"refused ");
+            io::print_decimal(1, n);
+            io::write_all(1, b"\n");
         }
     }
 }
@@ -40,15 +39,15 @@ fn count(log2_slice_len: u64, k: u64, size: f64) {
     number(k);
     match geometry::count::bucket_count(log2_slice_len, k, size) {
         Counted::Buckets(n) => {
-            io::write_all(STDOUT_FILENO, b"buckets ");
-            io::print_decimal(STDOUT_FILENO, n);
+            io::write_all(1, b"buckets ");
+            io::print_decimal(1, n);
         }
         Counted::Refused(n) => {
-            io::write_all(STDOUT_FILENO, b"refused ");
-            io::print_decimal(STDOUT_FILENO, n);
+            io::write_all(1, b"refused ");
+            io::print_decimal(1, n);
         }
     }
-    io::write_all(STDOUT_FILENO, b"\n");
+    io::write_all(1, b"\n");
 }
 
 // Each of 1 to 7, and the nearest settings that pass it.

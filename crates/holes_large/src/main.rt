@@ -1,24 +1,24 @@
 // Lists the holes of a level of 134,217,728 slots, the most there can be, where standard input asks for it. Its bitmap takes 16 MiB of
 // stack, more than a program is given unasked.
 #![tactic(auto)]
-use libc::{STDIN_FILENO, STDOUT_FILENO};
+
 use rules::Listed;
 
 fn slot(x: u32) {
-    io::write_all(STDOUT_FILENO, b" ");
-    io::print_decimal(STDOUT_FILENO, x as u64);
+    io::write_all(1, b" ");
+    io::print_decimal(1, x as u64);
 }
 
 // Lists the holes and says how it went.
 fn list(bitmap: &[u64; 2097152], out: &mut [u32; 4]) {
     match holes::holes(134_217_728, bitmap, out) {
         Listed::Holes(n) => {
-            io::write_all(STDOUT_FILENO, b"holes ");
-            io::print_decimal(STDOUT_FILENO, n);
+            io::write_all(1, b"holes ");
+            io::print_decimal(1, n);
         }
         Listed::Refused(n) => {
-            io::write_all(STDOUT_FILENO, b"refused ");
-            io::print_decimal(STDOUT_FILENO, n);
+            io::write_all(1, b"refused ");
+            io::print_decimal(1, n);
         }
     }
 }
@@ -34,16 +34,16 @@ fn largest(last: u64) {
     slot(out[1]);
     slot(out[2]);
     slot(out[3]);
-    io::write_all(STDOUT_FILENO, b"\n");
+    io::write_all(1, b"\n");
 }
 
 fn main() {
     let mut asked = [0u8; 1];
-    io::read_full(STDIN_FILENO, &mut asked);
+    io::read_full(0, &mut asked);
     if asked[0] == b'1' {
         largest(0x7fff_ffff_ffff_fffe);
         largest(0xffff_ffff_ffff_ffff);
     } else {
-        io::write_all(STDOUT_FILENO, b"not asked\n");
+        io::write_all(1, b"not asked\n");
     }
 }

@@ -1,6 +1,7 @@
 // Runs `holes` on small bitmaps. One line a case: m, the bitmap's words and the buffer's length; the answer; and the whole buffer afterwards, in
 // which each entry was 999. `expected.py` makes the file `stdout`, slot by slot.
 #![tactic(auto)]
+
 ghost use Rattle.std.specs.Prelude.{◌≤◌};
 
 use rules::Listed;

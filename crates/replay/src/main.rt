@@ -10,7 +10,6 @@ use answers::{done_held, in_numbers, stopped_held};
 use checks::check_all;
 use comparing::{Tally, held};
 use integers::choice::smaller;
-use libc::STDOUT_FILENO;
 use list_input::{bump_of, settings_of, weights_of};
 use reading::number;
 use rules::{How, Settings};
@@ -27,9 +26,9 @@ fn too_large(i: u64, refused: u64, so_far: Replayed) -> Replayed {
     let tally = so_far.tally;
     let large = so_far.large;
     reading::skip_answer(refused);
-    io::write_all(STDOUT_FILENO, b"case ");
-    io::print_decimal(STDOUT_FILENO, i);
-    io::write_all(STDOUT_FILENO, b": too large\n");
+    io::write_all(1, b"case ");
+    io::print_decimal(1, i);
+    io::write_all(1, b": too large\n");
     Replayed {
         tally: tally,
         large: std::num::wrapping_add_u64(large, 1),
@@ -232,10 +231,10 @@ fn main() {
         &mut work,
         &mut places,
     );
-    io::print_decimal(STDOUT_FILENO, count);
-    io::write_all(STDOUT_FILENO, b" cases, ");
-    io::print_decimal(STDOUT_FILENO, all.large);
-    io::write_all(STDOUT_FILENO, b" too large\n");
+    io::print_decimal(1, count);
+    io::write_all(1, b" cases, ");
+    io::print_decimal(1, all.large);
+    io::write_all(1, b" too large\n");
     let tally = all.tally;
     comparing::close(tally);
 }

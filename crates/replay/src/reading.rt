@@ -2,12 +2,11 @@
 ghost use Rattle.std.specs.Prelude.{◌≡◌, length};
 
 use house_numbers::{Grown, Part, grow};
-use libc::STDIN_FILENO;
 
 // The next byte, or 0 past the end.
 fn byte() -> u8 {
     let mut byte = [0u8; 1];
-    io::read_full(STDIN_FILENO, &mut byte);
+    io::read_full(0, &mut byte);
     byte[0]
 }
 

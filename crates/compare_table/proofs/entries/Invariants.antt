@@ -1,8 +1,5 @@
 -- Each entry of a slice is compared: the index stays below its length. Assumes nothing.
-use Prim.Native.Nat.{◌≤◌, ◌-◌}
-use mathlib.Core.Path.{◌≡◌}
-use native.Mathlib.Omega.{arith}
-use lib.ListN.{length}
+use Rattle.std.proofs.Common.{◌≡◌, ◌≤◌, ◌-◌, length}
 use Rattle.compare_table.proofs.entries.Given as goal
 
 abbrev pub invariant-loop-d : goal.invariant-loop-d

@@ -1,5 +1,5 @@
 -- The loop is safe and ends: it takes at most 21 turns, and nothing has to hold from turn to turn.
-use Rattle.std.proofs.Common.{◌-◌, arith}
+use Rattle.std.proofs.Common.{◌-◌}
 use Rattle.comparing.proofs.number.Given as goal
 
 abbrev pub invariant-loop : goal.invariant-loop
