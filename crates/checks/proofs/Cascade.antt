@@ -1,11 +1,11 @@
 -- The first number that applies, test after test; and what the tests that came before leave for the later ones. Assumes nothing.
-use mathlib.Core.Path.{◌≡◌, refl, sym, ap, ◌∙◌, subst}
-use mathlib.Core.Bool.{Bool, true, false, not, cond, ◌||◌}
+use mathlib.Core.Path.{◌≡◌, refl, sym, ap, ◌∙◌}
+use mathlib.Core.Bool.{Bool, true, false, not, cond}
 use mathlib.Core.List.{List, [], ◌∷◌, ◌++◌}
-use Prim.Native.Nat.{ℕ, zero, suc, ◌+◌, ◌-◌, ◌<◌, ◌≤◌, max}
+use Prim.Native.Nat.{ℕ, zero, suc, ◌+◌, ◌-◌, ◌<◌, ◌≤◌}
 use native.Mathlib.Omega.{arith}
 use native.Mathlib.Nat.{le_refl, le_trans}
-use lib.Dec.{T, leb, ltb, eqb, eqb→eq}
+use lib.Dec.{T, leb, eqb, eqb→eq}
 use lib.ListN.{length, get_or}
 use borrow.Author.Tests.{le-leb, lt-leb}
 use Rattle.words.specs.Cases.{lt_or_ge}
@@ -14,9 +14,9 @@ use Rattle.rules.specs.declared.How.{How}
 use Rattle.rules.specs.Lists.{every, below}
 use Rattle.rules.specs.Geometry.{entries}
 use Rattle.rules.specs.Order.{Input, size_of}
-use Rattle.rules.specs.Numbers.{Line, Lent, first_of, moderate, rising, begins_bad, table_bad, small_bucket, all_home, largest, largest_of, lines_to7, line8, line9, line10, line11, line12, line13, line20, sweep_lines}
+use Rattle.rules.specs.Numbers.{Lent, first_of, moderate, rising, begins_bad, table_bad, small_bucket, all_home, largest, largest_of, lines_to7, line8, line9, line10, line11, line12, line13, line20, sweep_lines}
 use Rattle.rules.specs.Answers.{sweep_number, work_needed}
-use Rattle.rules.proofs.Tests.{of_true, of_false, is_true, not_or_left, not_or_right, of_not_not}
+use Rattle.rules.proofs.Tests.{is_true, not_or_left, not_or_right, of_not_not}
 use Rattle.rules.proofs.InputLaws.{rising_steps}
 use Rattle.rules.proofs.Lines.{Numbered, first_append_zero, first_append_some}
 use Rattle.rules.proofs.CheckLaws.{numbered_7}

@@ -1,13 +1,12 @@
 -- The largest size, one bucket after the other: each step takes the larger of what was found and the next size. Assumes nothing.
 use mathlib.Core.Path.{◌≡◌, refl, sym, ap, ◌∙◌, subst}
-use mathlib.Core.Bool.{Bool, true, false}
-use mathlib.Core.List.{List, [], ◌∷◌}
+use mathlib.Core.Bool.{true}
+use mathlib.Core.List.{List}
 use Prim.Native.Nat.{ℕ, zero, suc, ◌+◌, ◌<◌, ◌≤◌, max}
 use native.Mathlib.Omega.{arith}
-use native.Mathlib.Numerals.{add-one}
-use lib.Dec.{T, leb, leb→le}
+use lib.Dec.{T, leb→le}
 use lib.ListN.{length, get_or}
-use Rattle.rules.specs.Lists.{count_from, below, every}
+use Rattle.rules.specs.Lists.{count_from, below}
 use Rattle.rules.specs.Order.{Input, size_of}
 use Rattle.rules.specs.Numbers.{largest_of, rising, step_up}
 use Rattle.groups.specs.Groups.{size_in, Grouped}

@@ -1,18 +1,18 @@
 -- A weight is within ±2^32 exactly where neither of the two tests finds it beyond. Assumes nothing.
-use mathlib.Core.Path.{◌≡◌, refl, sym, ap, ◌∙◌}
-use mathlib.Core.Bool.{Bool, true, false, not, ◌&&◌}
+use mathlib.Core.Path.{◌≡◌, refl}
+use mathlib.Core.Bool.{true, false, not}
 use lib.IntN.{ℤ, pos, negsuc}
 use lib.Signed.{lt_z, mag}
 use Prim.Native.Nat.{◌<◌, ◌^◌}
 use mir.Syntax.{w64}
-use mir.Val.{to_z, of_z, SFits}
+use mir.Val.{to_z, of_z}
 use mir.Facts.{to_z-of_z}
 use Rattle.rules.specs.Numbers.{moderate}
 use Rattle.checks.proofs.Every.{never}
 
 module _ (z : ℤ) (f : mag z < 2 ^ 63) where
   back : to_z w64 (of_z w64 z) ≡ z
-  back = to_z-of_z (record { sfits = f })
+  back = to_z-of_z {w = w64} (record { sfits = f })
 
   pub too_high : lt_z (pos 4294967296) (to_z w64 (of_z w64 z)) ≡ true → moderate z ≡ false
   unfolding moderate

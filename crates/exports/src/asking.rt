@@ -13,8 +13,7 @@ use lookup::{lookup, lookup_in};
 use rules::{Looked, Settings};
 
 // Looks a hash up. 0: slot has its slot, or 2^64 - 1 where its bucket was bumped.
-#[unsafe(no_mangle)]
-pub extern "C" fn phastr_lookup(
+pub fn phastr_lookup(
     m: u64,
     log2_slice_len: u64,
     ll: u64,
@@ -89,8 +88,7 @@ fn fill_slots(g: Geometry, seeds: &[u16], hashes: &[u64], slots: &mut [u64])
 }
 
 // Looks hashes up, each into its place of slots. 13 also where there are not as many slots as hashes.
-#[unsafe(no_mangle)]
-pub extern "C" fn phastr_positions(
+pub fn phastr_positions(
     m: u64,
     log2_slice_len: u64,
     ll: u64,

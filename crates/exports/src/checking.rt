@@ -28,8 +28,7 @@ fn tell(matched: Matched, bucket: &mut u64) -> u64
 
 // Checks a level that a sweep, ours or another, has made. 0: it is sound; 29: bucket has the lowest at which a slot is met
 // twice. The scratch is zero afterwards, unless one of 1 to 13 refuses.
-#[unsafe(no_mangle)]
-pub extern "C" fn phastr_check_level(
+pub fn phastr_check_level(
     m: u64,
     log2_slice_len: u64,
     ll: u64,

@@ -11,8 +11,7 @@ use level_file::{FileRead, FileWritten, read_file, write_file};
 use rules::Settings;
 
 // Writes a level file. 0: written has its length; else all bytes of out and written are 0.
-#[unsafe(no_mangle)]
-pub extern "C" fn phastr_level_write(
+pub fn phastr_level_write(
     m: u64,
     log2_slice_len: u64,
     ll: u64,
@@ -47,8 +46,7 @@ pub extern "C" fn phastr_level_write(
 }
 
 // Reads a level file. 0: level has m, log2_slice_len, ll, sb, B and the hole count; else it, all seeds and all holes are 0.
-#[unsafe(no_mangle)]
-pub extern "C" fn phastr_level_read(
+pub fn phastr_level_read(
     bytes: &[u8],
     seeds: &mut [u16],
     holes: &mut [u32],

@@ -2,6 +2,7 @@
 // document 01's number. What else it has to say goes into lent places, which it keeps where it has nothing to say; the calls on
 // level files leave zeros there.
 #![tactic(auto)]
+
 pub mod asking;
 pub mod checking;
 pub mod files;

@@ -15,13 +15,7 @@ use log_table::making::make_logs;
 use rules::{Checked, Counted, Settings};
 
 // How many buckets so many keys get. 0: count has the number.
-#[unsafe(no_mangle)]
-pub extern "C" fn phastr_bucket_count(
-    log2_slice_len: u64,
-    keys: u64,
-    size: f64,
-    count: &mut u64,
-) -> u64
+pub fn phastr_bucket_count(log2_slice_len: u64, keys: u64, size: f64, count: &mut u64) -> u64
     ensures answer { result ≡ number_told (count_answer log2_slice_len keys size) }
     ensures counted { count.new ≡ value_told (count_answer log2_slice_len keys size) count.old }
 {
@@ -36,8 +30,7 @@ pub extern "C" fn phastr_bucket_count(
 
 // What a sweep of a largest bucket of z keys wants lent. 0: sizes has the work words W, the table's entries and the
 // bitmap's words. 10 where z is above 4,096.
-#[unsafe(no_mangle)]
-pub extern "C" fn phastr_sizes(
+pub fn phastr_sizes(
     m: u64,
     log2_slice_len: u64,
     ll: u64,
@@ -70,16 +63,14 @@ pub extern "C" fn phastr_sizes(
 }
 
 // Writes the house table.
-#[unsafe(no_mangle)]
-pub extern "C" fn phastr_house_table(table: &mut [u32; 2048])
+pub fn phastr_house_table(table: &mut [u32; 2048])
     ensures { (table.new ≡ house_table) × House table.new }
 {
     *table = house();
 }
 
 // Fills a table of logarithms, of the length lent. 21 where that is 0 or above 131,072.
-#[unsafe(no_mangle)]
-pub extern "C" fn phastr_log_table(table: &mut [u32]) -> u64
+pub fn phastr_log_table(table: &mut [u32]) -> u64
     ensures answer { result ≡ number_told (log_answer (length table.old)) }
     ensures buffer { table.new ≡ logs_out table.old }
 {

@@ -34,8 +34,7 @@ fn tell(outcome: Outcome, counts: &mut [u64; 3], bucket: &mut u64) -> u64
 }
 
 // Sweeps a level in at most so many chunks. 0: counts has keys placed, keys bumped and buckets of seed 0; 14: bucket has the one that got 0.
-#[unsafe(no_mangle)]
-pub extern "C" fn phastr_sweep(
+pub fn phastr_sweep(
     m: u64,
     log2_slice_len: u64,
     ll: u64,
@@ -89,8 +88,7 @@ pub extern "C" fn phastr_sweep(
 }
 
 // Lists the unmarked slots below m. 0: count has how many there are.
-#[unsafe(no_mangle)]
-pub extern "C" fn phastr_holes(m: u64, bitmap: &[u64], out: &mut [u32], count: &mut u64) -> u64
+pub fn phastr_holes(m: u64, bitmap: &[u64], out: &mut [u32], count: &mut u64) -> u64
     ensures answer { result ≡ number_told (holes_answer m bitmap.now out.old) }
     ensures buffer { out.new ≡ holes_out m bitmap.now out.old }
     ensures counted { count.new ≡ value_told (holes_answer m bitmap.now out.old) count.old }

@@ -1,5 +1,5 @@
 -- The number at a place among bytes. Assumes nothing.
-use Rattle.std.specs.Prelude.{ℕ, ◌+◌, ◌*◌, ◌%◌, ◌^◌, Bool, cond, ◌||◌, List, [], ◌∷◌, ltb, leb, drop}
+use Rattle.std.specs.Prelude.{ℕ, ◌+◌, ◌*◌, ◌%◌, ◌^◌, cond, ◌||◌, List, [], ◌∷◌, ltb, leb, drop}
 use Rattle.house_numbers.specs.declared.Part.{Part}
 use Rattle.house_numbers.specs.declared.Grown.{Grown}
 use Rattle.house_numbers.specs.declared.Grown.TheVariants as Grow

@@ -1,14 +1,13 @@
 -- One more byte, case by case, and the number at a place, byte by byte. Assumes nothing.
-use Rattle.std.specs.Prelude.{ℕ, zero, suc, ◌+◌, ◌-◌, ◌*◌, ◌/◌, ◌%◌, ◌^◌, ◌≤◌, ◌<◌, ◌≡◌, Bool, cond, ◌||◌, List, [], ◌∷◌, ltb, leb, length, drop, get_or}
-use Rattle.std.proofs.Common.{arith, add-one, pow-suc, le-div_iff_mul-le, lt_of_not-le, mod-eq_of_lt, le_trans, mul-suc, sym, ◌∙◌, drop_of_length-le, pow-add, pow_pos, drop-cons}
+use Rattle.std.specs.Prelude.{ℕ, zero, suc, ◌+◌, ◌-◌, ◌*◌, ◌/◌, ◌%◌, ◌^◌, ◌≤◌, ◌<◌, ◌≡◌, List, length, drop, get_or}
+use Rattle.std.proofs.Common.{arith, add-one, pow-suc, le-div_iff_mul-le, lt_of_not-le, mod-eq_of_lt, sym, ◌∙◌, drop_of_length-le, pow-add, pow_pos, drop-cons}
 use Rattle.std.proofs.Math.Path.{refl, ap}
 use borrow.Author.Tests.{lt-ltb, le-ltb, le-leb, lt-leb}
 use Rattle.house_numbers.specs.declared.Part.{Part}
 use Rattle.house_numbers.specs.declared.Grown.{Grown}
 use Rattle.house_numbers.specs.declared.Grown.TheVariants as Grow
-use Rattle.house_numbers.specs.declared.Decoded.{Decoded}
 use Rattle.house_numbers.specs.declared.Decoded.TheVariants as Read
-use Rattle.house_numbers.specs.Decode.{no_groups, grown_value, grown_to, grown_by, settled, decoded_from, decoded_at}
+use Rattle.house_numbers.specs.Decode.{grown_value, grown_to, grown_by, settled, decoded_from}
 
 -- 128 is seven bits
 pub pow_groups : (g : ℕ) → 128 ^ g ≡ 2 ^ (7 * g)

@@ -1,5 +1,5 @@
 -- A number as bytes: groups of seven bits, low group first, top bit set while more follow. Assumes nothing.
-use Rattle.std.specs.Prelude.{ℕ, zero, suc, ◌+◌, ◌-◌, ◌/◌, ◌%◌, Bool, cond, List, [], ◌∷◌, ltb, leb, length}
+use Rattle.std.specs.Prelude.{ℕ, zero, suc, ◌+◌, ◌/◌, ◌%◌, Bool, cond, List, [], ◌∷◌, ltb, leb, length}
 use Rattle.std.proofs.lemmas.List.Edits.{sets}
 use Rattle.house_numbers.specs.declared.Encoded.{Encoded}
 use Rattle.house_numbers.specs.declared.Encoded.TheVariants.{Next, NoRoom}

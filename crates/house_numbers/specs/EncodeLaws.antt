@@ -1,6 +1,6 @@
 -- The bytes of a number, group by group: below 128 the number itself, else its low group and the bytes of the rest.
 -- Ten groups are enough because each division by 128 takes one off the exponent. Assumes nothing.
-use Rattle.std.specs.Prelude.{ℕ, zero, suc, ◌+◌, ◌-◌, ◌*◌, ◌/◌, ◌%◌, ◌^◌, ◌≤◌, ◌<◌, ◌≡◌, cond, List, [], ◌∷◌, ltb, set}
+use Rattle.std.specs.Prelude.{ℕ, zero, suc, ◌+◌, ◌/◌, ◌%◌, ◌^◌, ◌≤◌, ◌<◌, ◌≡◌, List, [], ◌∷◌, set}
 use Rattle.std.proofs.Common.{arith, pow-suc, div-lt_iff_lt-mul, sym, ap, ◌∙◌, lit<, add-one, lt-ltb, le-ltb, le-leb}
 use Rattle.std.proofs.Math.Decide.{dec_lt}
 use Rattle.std.proofs.Math.Path.{refl}
@@ -8,7 +8,6 @@ use Rattle.std.proofs.Math.Logic.{by_cases}
 use Rattle.std.proofs.Math.ListN.{length}
 use Rattle.std.proofs.lemmas.List.Edits.{sets}
 use Rattle.std.proofs.lemmas.Bool.{lt-leb}
-use Rattle.house_numbers.specs.declared.Encoded.{Encoded}
 use Rattle.house_numbers.specs.declared.Encoded.TheVariants.{Next, NoRoom}
 use Rattle.house_numbers.specs.Encode.{groups_in, encoded, has_room, encoded_next, encoded_out}
 

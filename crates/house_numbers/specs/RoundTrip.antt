@@ -2,14 +2,13 @@
 -- bytes of its number. Both go group by group: a part with value u and g groups, followed by the groups of w, is u + w · 128^g.
 -- Assumes nothing.
 use Rattle.std.specs.Prelude.{ℕ, zero, suc, ◌+◌, ◌-◌, ◌*◌, ◌/◌, ◌%◌, ◌^◌, ◌≤◌, ◌<◌, ◌≡◌, List, [], ◌∷◌, ◌++◌, length, take, drop, get_or}
-use Rattle.std.proofs.Common.{arith, add-one, mod-eq_of_lt, mul-le-mul_left, lit<, sym, ◌∙◌, append_assoc, length-drop, length-take, length-append, drop_at, get_or-drop, length-take-le}
+use Rattle.std.proofs.Common.{arith, add-one, mod-eq_of_lt, mul-le-mul_left, lit<, sym, ◌∙◌, append_assoc, length-drop, drop_at, get_or-drop, length-take-le}
 use Rattle.std.proofs.Math.Decide.{dec_lt}
 use Rattle.std.proofs.Math.Nat.{pow-suc, one-le-pow}
 use Rattle.std.proofs.Math.Path.{refl, ap}
 use Rattle.std.proofs.Math.Logic.{by_cases}
 use Rattle.std.proofs.lemmas.List.Edits.{sets, sets-eq}
 use Rattle.house_numbers.specs.declared.Part.{Part}
-use Rattle.house_numbers.specs.declared.Grown.{Grown}
 use Rattle.house_numbers.specs.declared.Grown.TheVariants as Grow
 use Rattle.house_numbers.specs.declared.Decoded.{Decoded}
 use Rattle.house_numbers.specs.declared.Decoded.TheVariants as Read

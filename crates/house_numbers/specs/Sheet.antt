@@ -1,5 +1,5 @@
 -- Worked numbers: one, two and ten groups, a padded number, and each refusal. Assumes nothing.
-use Rattle.std.specs.Prelude.{ℕ, ◌^◌, ◌-◌, ◌≡◌, refl, List, [], ◌∷◌, ◌++◌, replicate}
+use Rattle.std.specs.Prelude.{◌^◌, ◌-◌, ◌≡◌, refl, [], ◌∷◌, ◌++◌, replicate}
 use Rattle.house_numbers.specs.declared.Decoded.TheVariants.{Number, Refused}
 use Rattle.house_numbers.specs.Encode.{groups_in, encoded}
 use Rattle.house_numbers.specs.Decode.{grown_value, grown_to, grown_by, settled, decoded_from, decoded_at}

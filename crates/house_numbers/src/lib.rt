@@ -1,5 +1,6 @@
 // House numbers: groups of seven bits, low group first, the top bit of a byte set while more follow.
 #![tactic(auto)]
+
 ghost use Rattle.std.specs.Prelude.{◌≡◌, ◌+◌, ◌≤◌, length};
 ghost use Rattle.std.proofs.lemmas.List.Edits.{sets};
 ghost use Rattle.house_numbers.specs.Encode.{encoded, encoded_next, encoded_out};

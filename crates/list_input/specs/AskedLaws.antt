@@ -1,15 +1,14 @@
 -- The groups of a well formed input, counted and taken apart in one pass. Assumes nothing.
-use Rattle.std.specs.Prelude.{ℕ, zero, suc, ◌+◌, ◌-◌, ◌*◌, ◌/◌, ◌%◌, ◌^◌, ◌≤◌, ◌<◌, ◌≡◌, Bool, true, false, cond, ◌&&◌, ◌||◌, List, [], ◌∷◌, eqb, leb, ltb, drop, set, ℤ, pos, negsuc, ◌-ℤ◌}
-use Rattle.std.proofs.Common.{arith, add-one, sym, ap, ◌∙◌, drop_of_length-le, drop-cons, SFits, to_z, of_z}
+use Rattle.std.specs.Prelude.{ℕ, ◌+◌, ◌-◌, ◌/◌, ◌%◌, ◌^◌, ◌≤◌, ◌<◌, ◌≡◌, Bool, true, false, cond, ◌&&◌, ◌||◌, List, [], ◌∷◌, eqb, leb, ltb, drop, ℤ, pos, negsuc, ◌-ℤ◌}
+use Rattle.std.proofs.Common.{arith, sym, ap, ◌∙◌, SFits, to_z, of_z}
 use Rattle.std.proofs.Math.Decide.{dec_lt}
 use Rattle.std.proofs.Math.Path.{refl}
 use Rattle.std.proofs.Math.Bool.{or-true}
 use Rattle.std.proofs.Math.Logic.{by_cases}
 use Rattle.std.proofs.Math.ListN.{length, get_or, length-drop}
-use Rattle.std.proofs.lemmas.List.Edits.{sets}
 use Rattle.std.specs.Int.{w64}
 use Rattle.std.proofs.lemmas.Int.{to_z_pos, to_z-of_z}
-use Rattle.integers.specs.Ints.{up, dn, sub_is, eq_by}
+use Rattle.integers.specs.Ints.{sub_is, eq_by}
 use borrow.Author.Tests.{eq-eqb, ne_eqb, eqb-true, leb-true, ltb-true, ltb-false, lt-ltb, le-ltb}
 use Rattle.list_input.specs.Form.{grouped, well_formed}
 use Rattle.list_input.specs.Asked.{weight_of, hashes_in, begins_in, settings_of, hashes_of, begins_of, over_size}

@@ -1,6 +1,6 @@
 -- Where the buckets' keys begin never falls, whatever the numbers are. Assumes nothing.
 use Rattle.std.specs.Prelude.{ℕ, zero, suc, ◌+◌, ◌-◌, ◌≤◌, ◌<◌, ◌≡◌, refl, Bool, true, false, List, [], ◌∷◌, ltb, length, get_or, drop}
-use Rattle.std.proofs.Common.{arith, le_refl, ap}
+use Rattle.std.proofs.Common.{arith, le_refl}
 use Rattle.std.proofs.Math.Numerals.{add-one}
 use Rattle.list_input.specs.Form.{well_formed}
 use Rattle.list_input.specs.Asked.{begins_in, begins_of}

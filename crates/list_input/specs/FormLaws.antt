@@ -1,9 +1,9 @@
 -- The form followed number by number ends well exactly where the numbers are well formed: the thirteen numbers of the head are followed
 -- one by one, and after them a step of the form is a step of `grouped`. Assumes nothing.
-use Rattle.std.specs.Prelude.{ℕ, zero, suc, ◌+◌, ◌-◌, ◌≤◌, ◌<◌, ◌≡◌, Bool, true, false, cond, ◌&&◌, List, [], ◌∷◌, eqb, leb, ltb, length, get_or, drop}
+use Rattle.std.specs.Prelude.{ℕ, suc, ◌+◌, ◌-◌, ◌≤◌, ◌<◌, ◌≡◌, Bool, true, false, cond, ◌&&◌, List, [], ◌∷◌, eqb, leb, ltb, length}
 use Rattle.std.proofs.Common.{arith, sym, ap, ◌∙◌, lit≤, le-leb, le-ltb, lt-ltb}
 use Rattle.std.proofs.Math.Path.{refl}
-use Rattle.std.proofs.Math.Bool.{and-true, and_false, and_assoc, and_comm}
+use Rattle.std.proofs.Math.Bool.{and-true, and-false, and_assoc, and_comm}
 use Rattle.std.proofs.Math.Decide.{dec_lt}
 use Rattle.std.proofs.Math.Logic.{by_cases}
 use Rattle.list_input.specs.declared.Form.{Form}
@@ -53,7 +53,7 @@ after_broken (v ∷ ns) f e = after_broken ns (form_step f v) (step_broken f v e
 
 pub ends_broken : (f : Form) → f.fine ≡ false → form_ends f ≡ false
 unfolding form_ends
-ends_broken f e = simp (e, and_false)
+ends_broken f e = simp (e, and-false)
 
 -- ---- after the head
 
@@ -77,7 +77,7 @@ ends_more v ns ends f h = go (ltb 0 f.keys) (ltb 0 f.buckets) refl refl
     go false true k l = rw (step_bucket f v h k l) (ends (record { head = f.head; keys = v; buckets = f.buckets - 1; fine = f.fine }) h)
     go false false k l =
         rw (step_left f v h k l)
-        (ends_broken _ (after_broken ns (record { head = f.head; keys = f.keys; buckets = f.buckets; fine = false }) refl) ∙ sym (and_false f.fine))
+        (ends_broken _ (after_broken ns (record { head = f.head; keys = f.keys; buckets = f.buckets; fine = false }) refl) ∙ sym (and-false f.fine))
 
 body_ends : (ns : List ℕ) → Ends ns
 body_ends [] = ends_none

@@ -1,18 +1,16 @@
 -- What a scan of a whole input says of it. The bytes are its numbers one after the other: the form, the count and the numbers kept after
 -- the bytes are those after the numbers; where the bytes are no numbers, the scan does not end well. Assumes nothing.
-use Rattle.std.specs.Prelude.{ℕ, zero, suc, ◌+◌, ◌-◌, ◌≤◌, ◌<◌, min, ◌≡◌, refl, Bool, true, false, cond, ◌&&◌, List, [], ◌∷◌, ◌++◌, eqb, ltb, length, take, drop, set}
-use Rattle.std.proofs.Common.{arith, add-one, sym, ap, ◌∙◌, take_at, eqb-true, lt-ltb}
-use Rattle.std.proofs.Math.Bool.{and_false}
+use Rattle.std.specs.Prelude.{ℕ, suc, ◌+◌, ◌≤◌, min, ◌≡◌, refl, Bool, true, false, cond, ◌&&◌, List, [], ◌∷◌, eqb, length, take, drop, set}
+use Rattle.std.proofs.Common.{arith, sym, ap, ◌∙◌, take_at, eqb-true, lt-ltb}
+use Rattle.std.proofs.Math.Bool.{and-false}
 use Rattle.std.proofs.Math.Option.{Option, none, some}
 use Rattle.std.proofs.lemmas.List.Edits.{sets, sets-eq}
-use Rattle.house_numbers.specs.declared.Part.{Part}
 use Rattle.house_numbers.specs.declared.Grown.{Grown}
 use Rattle.house_numbers.specs.declared.Grown.TheVariants as Grow
 use Rattle.house_numbers.specs.Decode.{no_groups, grown_by}
-use Rattle.list_input.specs.declared.Form.{Form}
 use Rattle.list_input.specs.declared.Scan.{Scan}
 use Rattle.list_input.specs.Form.{in_front, numbers_by, numbers_from, numbers_of, well_formed, if_formed, form_of}
-use Rattle.list_input.specs.Scan.{form_start, form_step, form_ends, broken_form, scan_start, counted, scan_by, store_by, fed_scan, fed_numbers, scan_ends, form_after, count_after, kept_after}
+use Rattle.list_input.specs.Scan.{form_ends, scan_start, counted, scan_by, store_by, fed_scan, fed_numbers, scan_ends, form_after, count_after, kept_after}
 use Rattle.list_input.specs.FormLaws.{step_broken, ends_broken, form_ends_lem}
 
 never : (x : Option (List ℕ)) (ns : List ℕ) → x ≡ none → x ≡ some ns → ⊥
@@ -78,7 +76,7 @@ fed_broken (b ∷ bytes) s e = fed_broken bytes (scan_by s (grown_by s.part b)) 
 
 scan_broken : (s : Scan) → s.form.fine ≡ false → scan_ends s ≡ false
 unfolding scan_ends
-scan_broken s e = rw (ends_broken s.form e) (and_false (eqb s.part.groups 0))
+scan_broken s e = rw (ends_broken s.form e) (and-false (eqb s.part.groups 0))
 
 Deaf : List ℕ → Type 0
 Deaf bytes = (s : Scan) → numbers_from bytes s.part ≡ none → scan_ends (fed_scan s bytes) ≡ false

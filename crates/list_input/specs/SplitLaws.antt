@@ -1,12 +1,12 @@
 -- The one pass that takes the groups apart. At each number, what is stored so far and what the numbers from there on would add is all
 -- that there is to store. Assumes nothing.
-use Rattle.std.specs.Prelude.{ℕ, zero, suc, ◌+◌, ◌-◌, ◌≤◌, ◌<◌, ◌≡◌, true, false, List, [], ◌∷◌, ltb, length, get_or, drop, set}
+use Rattle.std.specs.Prelude.{ℕ, suc, ◌+◌, ◌-◌, ◌≤◌, ◌<◌, ◌≡◌, true, false, List, [], ◌∷◌, length, get_or, drop, set}
 use Rattle.std.proofs.Common.{arith, add-one, sym, ap, ◌∙◌, drop_of_length-le, drop-cons, lt-ltb, le-ltb}
 use Rattle.std.proofs.Math.Path.{refl}
 use Rattle.std.proofs.lemmas.List.Edits.{sets}
 use Rattle.list_input.specs.Form.{well_formed}
 use Rattle.list_input.specs.Asked.{hashes_in, begins_in, hashes_of, begins_of, over_size}
-use Rattle.list_input.specs.AskedLaws.{long_enough, keys_most, begins_most, hashes_hash, begins_hash, hashes_count, begins_count}
+use Rattle.list_input.specs.AskedLaws.{keys_most, begins_most, hashes_hash, begins_hash, hashes_count, begins_count}
 
 -- before the number at i: h hashes and b beginnings are stored, and so many hashes of the present bucket are still to come
 pub record Splitting (ns hashes₀ begins₀ hashes begins : List ℕ) (h b keys i : ℕ) : Type 0 where

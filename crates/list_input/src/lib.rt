@@ -1,5 +1,6 @@
 // The sweep list program's input: read byte by byte for its form, and taken apart.
 #![tactic(auto)]
+
 mod asked;
 mod numbers;
 mod stream;

@@ -1,5 +1,5 @@
 -- The listing of document 01, byte for byte, and two refusals. Assumes nothing.
-use Rattle.std.specs.Prelude.{ℕ, ◌≡◌, refl, List, [], ◌∷◌}
+use Rattle.std.specs.Prelude.{◌≡◌, refl, [], ◌∷◌}
 use Rattle.list_output.specs.Text.{digits_in, decimal, fields, line, refused_text, bucket_line, hole_line, sweep_line, done_text}
 
 -- sweep 7 3 3 3 0 1 4 / bucket 0 2 3 / bucket 1 1 4 / bucket 2 0 0 / hole 0 / hole 3 / hole 5 / hole 6

@@ -1,6 +1,6 @@
 -- A text written piece by piece: what is written and what is still to write, stored after it, is at each moment the whole text stored.
 -- Assumes nothing.
-use Rattle.std.specs.Prelude.{ℕ, zero, suc, ◌+◌, ◌≤◌, ◌<◌, ◌≡◌, refl, List, [], ◌∷◌, ◌++◌, length, get_or, drop, set}
+use Rattle.std.specs.Prelude.{ℕ, suc, ◌+◌, ◌≤◌, ◌<◌, ◌≡◌, refl, List, [], ◌∷◌, ◌++◌, length, get_or, drop, set}
 use Rattle.std.proofs.Common.{arith, add-zero, add-suc, suc-add, add-one, sym, ap, ◌∙◌, length-append, drop_of_length-le, drop-cons}
 use Rattle.std.proofs.lemmas.List.Edits.{sets}
 use Rattle.std.proofs.Math.Seq.{length-sets}

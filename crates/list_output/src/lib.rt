@@ -1,5 +1,6 @@
 // What the sweep list program prints, written into a lent buffer. Each function answers the place after what it wrote.
 #![tactic(auto)]
+
 mod lines;
 mod text;
 

@@ -1,6 +1,7 @@
 // Whether two of a bucket's hashes are equal (rule S: then the bucket gets seed 0).
 // The keys are sorted into lent work, and equal keys are then neighbours.
 #![tactic(auto)]
+
 ghost use Rattle.std.specs.Prelude.{◌≡◌, not, ◌*◌, ◌≤◌, length, drop};
 ghost use Rattle.rules.specs.Lists.{distinct};
 

@@ -1,4 +1,5 @@
 #![tactic(auto)]
+
 ghost use Rattle.std.specs.Prelude.{◌≡◌, ◌&&◌, List, ℕ, ◌+◌, ◌≤◌, ◌<◌, ◌^◌, min, eqb};
 ghost use Rattle.rules.specs.Order.{Input};
 ghost use Rattle.window.specs.Queues.{queues_of};

@@ -1,14 +1,10 @@
 use Rattle.checks.proofs.Every.{every_each, every_fails}
 use Rattle.rules.specs.Numbers.{step_up, rising}
-use lib.Dec.{leb}
-use lib.ListN.{length, get_or}
-use Prim.Native.Nat.{ℕ, ◌+◌, ◌-◌, ◌<◌, ◌≤◌}
-use mathlib.Core.Bool.{Bool, true, false, not}
-use mathlib.Core.Path.{◌≡◌, refl, sym, ap, ◌∙◌}
+use mathlib.Core.Bool.{not}
+use mathlib.Core.Path.{sym, ap}
 use native.Mathlib.Omega.{arith}
-use borrow.Author.Tests.{lt-ltb, le-leb, lt-leb}
+use borrow.Author.Tests.{le-leb, lt-leb}
 use borrow.Author.Count.{below_more}
-use borrow.Author.Rules.{rules}
 use Rattle.checks.proofs.falls.Goals as goal
 
 pub loop-k-init : goal.loop-k-init

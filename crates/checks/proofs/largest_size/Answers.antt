@@ -1,12 +1,10 @@
 use Rattle.checks.proofs.Sizes.{largest_none, largest_next, rising_grouped}
 use Rattle.checks.specs.Largest.{Largest}
-use lib.ListN.{length, get_or}
-use Prim.Native.Nat.{ℕ, ◌+◌, ◌-◌, ◌^◌, ◌<◌, ◌≤◌}
-use mathlib.Core.Logic.{⊎_elim}
-use mathlib.Core.Path.{◌≡◌, refl, sym, ap, ◌∙◌, subst}
+use Prim.Native.Nat.{ℕ}
+use mathlib.Core.Path.{◌≡◌, subst}
 use native.Mathlib.Omega.{arith}
-use borrow.Author.Rules.{rules}
 use Rattle.checks.proofs.largest_size.Goals as goal
+use Rattle.checks.proofs.largest_size.Goals.{then-z-size, else-z-size}
 
 pub loop-b-init : goal.loop-b-init
 loop-b-init c = (omega arith, largest_none _, omega arith)
@@ -22,10 +20,10 @@ loop-b-preserved c =
     let e = c.size_of-size.ensures.0 in
     let l = c.loop-b.invariant.1 in
     let b = c.size_of-size.ensures.1 in
-    ⊎_elim
-    (λ w. let z = w.1 in (omega arith, largest_next l e (omega (arith, w.0.taken)), omega arith))
-    (λ w. let z = w.1 in (omega arith, largest_next l e (omega (arith, w.0.left)), omega (arith, c.loop-b.invariant.2)))
-    c.if-z-size.branch
+    elim c.if-z-size.branch [
+      | then-z-size w ↦ (omega arith, largest_next l e (omega arith), omega arith)
+      | else-z-size w ↦ (omega arith, largest_next l e (omega arith), omega (arith, c.loop-b.invariant.2))
+    ]
 
 pub returns : goal.returns
 returns c = let e : c.loop-b.b ≡ c.args.buckets = omega arith in (subst (λ (n : ℕ). Largest c.args.begins.now n c.loop-b.z) e c.loop-b.invariant.1, c.loop-b.invariant.2)

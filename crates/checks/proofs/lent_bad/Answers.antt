@@ -1,6 +1,5 @@
 use borrow.Author.Tests.{eq-eqb, ne_eqb}
-use mathlib.Core.Path.{◌≡◌, refl}
-use borrow.Author.Rules.{rules}
+use mathlib.Core.Path.{refl}
 use Rattle.checks.proofs.lent_bad.Goals as goal
 
 pub returns-then-seeds-s : goal.returns-then-seeds-s

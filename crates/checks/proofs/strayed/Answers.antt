@@ -1,12 +1,6 @@
-use Rattle.checks.proofs.Stray.{part_of, strays_as, none_strayed, one_strayed, begun_grouped}
-use Rattle.checks.specs.Homes.{Strays}
-use lib.ListN.{length, get_or}
-use Prim.Native.Nat.{ℕ, ◌+◌, ◌-◌, ◌<◌, ◌≤◌}
-use mathlib.Core.Bool.{Bool, true, false}
-use mathlib.Core.Path.{◌≡◌, refl, sym, ap, ◌∙◌, subst}
+use Rattle.checks.proofs.Stray.{strays_as, none_strayed, one_strayed, begun_grouped}
 use native.Mathlib.Omega.{arith}
 use borrow.Author.Count.{below_more}
-use borrow.Author.Rules.{rules}
 use Rattle.checks.proofs.strayed.Goals as goal
 
 pub loop-b-init : goal.loop-b-init

@@ -1,11 +1,7 @@
 use Rattle.checks.proofs.Stray.{all_in, one_out}
-use Rattle.rules.specs.Geometry.{bucket_of}
-use lib.ListN.{length, get_or}
-use Prim.Native.Nat.{ℕ, ◌+◌, ◌-◌, ◌<◌, ◌≤◌}
-use mathlib.Core.Path.{◌≡◌, refl, sym, ap, ◌∙◌}
+use mathlib.Core.Path.{sym, ◌∙◌}
 use native.Mathlib.Omega.{arith}
 use borrow.Author.Count.{below_more}
-use borrow.Author.Rules.{rules}
 use Rattle.checks.proofs.strays.Goals as goal
 
 pub loop-k-init : goal.loop-k-init

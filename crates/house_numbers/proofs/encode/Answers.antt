@@ -6,7 +6,6 @@ use lib.ListN.{length}
 use mathlib.Core.Path.{ap, ◌∙◌}
 use native.Mathlib.Omega.{arith}
 use Prim.Native.Nat.{◌+◌, ◌<◌, ◌≤◌}
-use borrow.Author.Rules.{rules}
 use Rattle.house_numbers.proofs.encode.Goals as goal
 
 pub returns-then-at-out : goal.returns-then-at-out

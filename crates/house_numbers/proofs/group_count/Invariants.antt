@@ -1,10 +1,8 @@
 -- `group_count` counts the bytes of a number: those counted and those of the rest are at each turn all of them, and one more. Assumes nothing.
-use Rattle.house_numbers.specs.EncodeLaws.{length_small, length_large, length_pos, length_ten}
 use Rattle.house_numbers.specs.Encode.{encoded}
 use lib.ListN.{length}
-use mathlib.Core.Path.{◌≡◌, refl, sym, ap, ◌∙◌}
-use native.Mathlib.Omega.{arith}
-use Prim.Native.Nat.{ℕ, ◌+◌, ◌-◌, ◌^◌, ◌<◌}
+use mathlib.Core.Path.{◌≡◌}
+use Prim.Native.Nat.{◌+◌, ◌^◌, ◌<◌}
 use Rattle.house_numbers.proofs.group_count.Given as goal
 
 abbrev pub invariant-loop-rest : goal.invariant-loop-rest

@@ -3,11 +3,8 @@
 use Prim.Native.Nat.{ℕ, ◌+◌, ◌<◌, ◌^◌}
 use Rattle.house_numbers.specs.DecodeLaws.{grown_long, grown_wide, grown_whole, grown_more, value_wide, value_fits, value_is}
 use Rattle.house_numbers.specs.declared.Grown.TheVariants as Grow
-use Rattle.house_numbers.specs.declared.Grown.{Grown}
-use Rattle.house_numbers.specs.declared.Part.{Part}
-use mathlib.Core.Path.{◌≡◌, ap, ◌∙◌}
+use mathlib.Core.Path.{ap, ◌∙◌}
 use native.Mathlib.Omega.{arith}
-use borrow.Author.Rules.{rules}
 use Rattle.house_numbers.proofs.grow.Goals as goal
 
 pub returns-then-groups-gt9 : goal.returns-then-groups-gt9

@@ -1,12 +1,9 @@
 -- `put_groups` stores the bytes of a number one after the other: storing the rest from the present place on gives at each turn what
 -- storing all of them gives. Assumes nothing.
 use Rattle.house_numbers.specs.EncodeLaws.{sets_small, sets_large, length_small, length_large, length_pos}
-use Rattle.house_numbers.specs.Encode.{encoded}
-use lib.Seq.{sets}
-use lib.ListN.{length, length-set}
-use mathlib.Core.Path.{◌≡◌, refl, ◌∙◌}
+use lib.ListN.{length-set}
+use mathlib.Core.Path.{refl, ◌∙◌}
 use native.Mathlib.Omega.{arith}
-use Prim.Native.Nat.{◌+◌, ◌^◌, ◌<◌}
 use Rattle.house_numbers.proofs.put_groups.Goals as goal
 
 pub loop-rest-init : goal.loop-rest-init

@@ -1,5 +1,6 @@
 -- Each way out says what `level_answer` says there, and leaves the scratch as the last `clear` made it: all zero.
 use lib.ListN.{length}
+use native.Mathlib.Omega.{arith}
 use Rattle.level_check.proofs.Judging.{blank, refill, says_28, says_29, says_30, says_accepted}
 use borrow.Author.Rules.{rules}
 use Rattle.level_check.proofs.judge.Goals as goal
@@ -29,7 +30,7 @@ returns-then-b-seeds c =
     record {
       answer = says_29 a.g.settings a.hashes.now a.begins.now a.seeds.now a.bitmap.now c.requires.seeds_len.0
           c.power_of_two.ensures.0 c.seeds_bad.ensures c.if-seeds_bad.false c.mark_buckets-b.ensures c.if-b-seeds.true;
-      scratch = refill _ (length c.mark_buckets-b.new.scratch) _ c.clear-then-b-seeds.ensures (same-length-2 c);
+      scratch = refill _ (length c.mark_buckets-b.new.scratch) _ c.clear-then-b-seeds.ensures (omega arith);
     }
 
 pub returns-then-same : goal.returns-then-same
@@ -39,7 +40,7 @@ returns-then-same c =
       answer = says_accepted a.g.settings a.hashes.now a.begins.now a.seeds.now a.bitmap.now c.requires.seeds_len.0
           c.power_of_two.ensures.0 c.seeds_bad.ensures c.if-seeds_bad.false c.mark_buckets-b.ensures c.if-b-seeds.false
           c.same_words-same.ensures c.if-same.true;
-      scratch = refill _ (length c.mark_buckets-b.new.scratch) _ c.clear-2.ensures (same-length-3 c);
+      scratch = refill _ (length c.mark_buckets-b.new.scratch) _ c.clear-2.ensures (omega arith);
     }
 
 pub returns : goal.returns
@@ -49,5 +50,5 @@ returns c =
       answer = says_30 a.g.settings a.hashes.now a.begins.now a.seeds.now a.bitmap.now c.requires.seeds_len.0
           c.power_of_two.ensures.0 c.seeds_bad.ensures c.if-seeds_bad.false c.mark_buckets-b.ensures c.if-b-seeds.false
           c.same_words-same.ensures c.if-same.false;
-      scratch = refill _ (length c.mark_buckets-b.new.scratch) _ c.clear-2.ensures (same-length-4 c);
+      scratch = refill _ (length c.mark_buckets-b.new.scratch) _ c.clear-2.ensures (omega arith);
     }

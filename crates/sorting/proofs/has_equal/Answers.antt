@@ -1,6 +1,5 @@
 -- `sorting::has_equal` meets its contract: the sorted keys stand at the front of the work, and equal keys are then neighbours.
 -- Assumes nothing.
-use borrow.Author.Rules.{rules}
 use mathlib.Core.Path.{sym}
 use Prim.Native.Nat.{◌*◌}
 use native.Mathlib.Omega.{arith}

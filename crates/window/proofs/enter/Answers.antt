@@ -1,7 +1,6 @@
 use native.Mathlib.Omega.{arith}
 use Prim.Native.Nat.{◌<◌}
 use mathlib.Core.Path.{refl}
-use borrow.Author.Rules.{rules}
 use Rattle.window.proofs.enter.Goals as goal
 use Rattle.window.proofs.enter.Goals.{Start}
 

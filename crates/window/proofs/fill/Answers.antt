@@ -1,15 +1,12 @@
 use Rattle.window.proofs.AscLaws.{asc_room}
 use Rattle.window.proofs.WindowLaws.{enterable, enters}
-use Rattle.window.specs.Window.{State, state_at, Ranged, Window, Entering}
+use Rattle.window.specs.Window.{State, Entering}
 use Rattle.window.specs.Queues.{queues_of}
-use Rattle.rules.specs.Order.{Input}
 use lib.IntN.{ℤ}
-use borrow.Author.Rules.{rules}
 use native.Mathlib.Omega.{arith}
-use Prim.Native.Nat.{ℕ, ◌-◌, ◌≤◌, ◌<◌}
+use Prim.Native.Nat.{ℕ, ◌≤◌, ◌<◌}
 use mathlib.Core.List.{List}
 use mathlib.Core.Path.{◌≡◌, refl, ◌∙◌}
-use Rattle.window.proofs.fill.Invariants.{Filling}
 use Rattle.window.proofs.fill.Goals as goal
 use Rattle.window.proofs.fill.Goals.{Start}
 

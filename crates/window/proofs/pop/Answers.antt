@@ -1,7 +1,6 @@
 use native.Mathlib.Omega.{arith}
 use Prim.Native.Nat.{ℕ, ◌<◌, ◌≤◌}
 use mathlib.Core.Path.{◌≡◌, refl, subst}
-use borrow.Author.Rules.{rules}
 use lib.IntN.{ℤ}
 use mir.Syntax.{w64}
 use mir.Val.{to_z, of_z}
@@ -16,7 +15,7 @@ below_64 r l n = omega arith
 -- the choice, by the key that was made
 chosen : (c : goal.After-whose-size) → Choice c.args.keys.now c.args.on c.args.n c.key_told-k.result c.whose-size.result
 chosen c =
-    let back : to_z w64 (of_z w64 c.key_told-k.result) ≡ c.key_told-k.result = to_z-of_z (record { sfits = c.key_told-k.type-inv }) in
+    let back : to_z w64 (of_z w64 c.key_told-k.result) ≡ c.key_told-k.result = to_z-of_z {w = w64} (record { sfits = c.key_told-k.type_inv }) in
     subst (λ (z : ℤ). Choice c.args.keys.now c.args.on c.args.n z c.whose-size.result) back c.whose-size.ensures
 
 pub key_told-k-requires : goal.key_told-k-requires

@@ -4,7 +4,6 @@ use Prim.Native.Nat.{ℕ, ◌+◌, min}
 use mathlib.Core.Logic.{◌⊎◌}
 use mathlib.Core.List.{[]}
 use mathlib.Core.Path.{◌≡◌, sym, ap, ◌∙◌, subst}
-use borrow.Author.Rules.{rules}
 use Rattle.window.proofs.refill.Goals as goal
 use Rattle.window.proofs.refill.Goals.{Start}
 

@@ -7,12 +7,12 @@ use Rattle.exports.proofs.asking.phastr_lookup.Goals as goal
 
 pub returns-in-Bumped : goal.returns-in-Bumped
 unfolding said_looked number_told slot_told slot_or
-returns-in-Bumped c = rw (← c.lookup.ensures, c.enum_told-1.given.1) (refl, refl)
+returns-in-Bumped c = let e = c.in-Bumped.ensures in record { answer = rw (← e) refl; found = rw (← e) refl }
 
 pub returns-in-At : goal.returns-in-At
 unfolding said_looked number_told slot_told slot_or
-returns-in-At c = rw (← c.lookup.ensures, c.at-1.given.1) (refl, refl)
+returns-in-At c = let e = c.in-At.ensures in record { answer = rw (← e) refl; found = rw (← e) refl }
 
 pub returns-in-Refused : goal.returns-in-Refused
 unfolding said_looked number_told slot_told
-returns-in-Refused c = rw (← c.lookup.ensures, c.number-1.given.1) (refl, refl)
+returns-in-Refused c = let e = c.in-Refused.ensures in record { answer = rw (← e) refl; found = rw (← e) refl }

@@ -20,18 +20,29 @@ use Rattle.exports.specs.Positions.{slot_of, lent_wrong, positions_lines, positi
 use Rattle.exports.proofs.Closing.{earlier, last, done}
 use Rattle.exports.proofs.Fields.{settings_are}
 use Rattle.exports.proofs.asking.phastr_positions.Goals as goal
-use Rattle.exports.proofs.asking.phastr_positions.Goals.{Else-n-ne0, Start}
+use Rattle.exports.proofs.asking.phastr_positions.Goals.{Else-n-ne0}
+
+-- the slots of the hashes
+abbrev wanted : Settings → (seeds hashes : List ℕ) → List ℕ
+wanted s seeds hashes = map (slot_of s seeds) hashes
+
+-- none of 1 to 6 applies
+none : (c : goal.Else-n-ne0) → first_of (lines_to6 (settings_of c.args.m c.args.log2_slice_len c.args.ll c.args.sb c.args.buckets)) ≡ 0
+none c = sym c.number_to_6-n.ensures.0 ∙ c.if-n-ne0.false
+
+usable : (c : goal.Else-n-ne0) → Usable (settings_of c.args.m c.args.log2_slice_len c.args.ll c.args.sb c.args.buckets)
+usable c = passes_6 (settings_of c.args.m c.args.log2_slice_len c.args.ll c.args.sb c.args.buckets) (none c)
 
 pub returns-then-n-ne0 : goal.returns-then-n-ne0
 unfolding positions_number positions_slots positions_lines
 returns-then-n-ne0 c =
-    let whole = earlier (lines_to6 (settings (goal.at.returns-then-n-ne0 c).Start)) 13 (wrong (goal.at.returns-then-n-ne0 c).Start) c.args.slots.now (wanted (goal.at.returns-then-n-ne0 c).Start) c.number_to_6-n.result c.number_to_6-n.ensures.0 c.if-n-ne0.true in
+    let whole = earlier (lines_to6 (settings_of c.args.m c.args.log2_slice_len c.args.ll c.args.sb c.args.buckets)) 13 (lent_wrong (settings_of c.args.m c.args.log2_slice_len c.args.ll c.args.sb c.args.buckets) c.args.seeds.now c.args.hashes.now c.args.slots.now) c.args.slots.now (wanted (settings_of c.args.m c.args.log2_slice_len c.args.ll c.args.sb c.args.buckets) c.args.seeds.now c.args.hashes.now) c.number_to_6-n.result c.number_to_6-n.ensures.0 c.if-n-ne0.true in
     record { answer = whole.0; found = whole.1 }
 
 pub returns-then-seeds-buckets : goal.returns-then-seeds-buckets
 unfolding positions_number positions_slots positions_lines
 returns-then-seeds-buckets c =
-    let whole = last (lines_to6 (settings (goal.at.returns-then-seeds-buckets c).Start)) 13 (wrong (goal.at.returns-then-seeds-buckets c).Start) c.args.slots.now (wanted (goal.at.returns-then-seeds-buckets c).Start) (numbered_6 (settings (goal.at.returns-then-seeds-buckets c).Start)) (none (goal.at.returns-then-seeds-buckets c).Else-n-ne0) (λ q. omega arith)
+    let whole = last (lines_to6 (settings_of c.args.m c.args.log2_slice_len c.args.ll c.args.sb c.args.buckets)) 13 (lent_wrong (settings_of c.args.m c.args.log2_slice_len c.args.ll c.args.sb c.args.buckets) c.args.seeds.now c.args.hashes.now c.args.slots.now) c.args.slots.now (wanted (settings_of c.args.m c.args.log2_slice_len c.args.ll c.args.sb c.args.buckets) c.args.seeds.now c.args.hashes.now) (numbered_6 (settings_of c.args.m c.args.log2_slice_len c.args.ll c.args.sb c.args.buckets)) (none (goal.at.returns-then-seeds-buckets c).Else-n-ne0) (λ q. omega arith)
     (or_left (not (eqb (length c.args.seeds.now) c.args.buckets)) (not (eqb (length c.args.slots.now) (length c.args.hashes.now)))
     (neq→neqb (length c.args.seeds.now) c.args.buckets c.if-seeds-buckets.true)) in
     record { answer = whole.0; found = whole.1 }
@@ -39,7 +50,7 @@ returns-then-seeds-buckets c =
 pub returns-then-slots-hashes : goal.returns-then-slots-hashes
 unfolding positions_number positions_slots positions_lines
 returns-then-slots-hashes c =
-    let whole = last (lines_to6 (settings (goal.at.returns-then-slots-hashes c).Start)) 13 (wrong (goal.at.returns-then-slots-hashes c).Start) c.args.slots.now (wanted (goal.at.returns-then-slots-hashes c).Start) (numbered_6 (settings (goal.at.returns-then-slots-hashes c).Start)) (none (goal.at.returns-then-slots-hashes c).Else-n-ne0) (λ q. omega arith)
+    let whole = last (lines_to6 (settings_of c.args.m c.args.log2_slice_len c.args.ll c.args.sb c.args.buckets)) 13 (lent_wrong (settings_of c.args.m c.args.log2_slice_len c.args.ll c.args.sb c.args.buckets) c.args.seeds.now c.args.hashes.now c.args.slots.now) c.args.slots.now (wanted (settings_of c.args.m c.args.log2_slice_len c.args.ll c.args.sb c.args.buckets) c.args.seeds.now c.args.hashes.now) (numbered_6 (settings_of c.args.m c.args.log2_slice_len c.args.ll c.args.sb c.args.buckets)) (none (goal.at.returns-then-slots-hashes c).Else-n-ne0) (λ q. omega arith)
     (or_right (not (eqb (length c.args.seeds.now) c.args.buckets)) (not (eqb (length c.args.slots.now) (length c.args.hashes.now)))
     (neq→neqb (length c.args.slots.now) (length c.args.hashes.now) c.if-slots-hashes.true)) in
     record { answer = whole.0; found = whole.1 }
@@ -59,11 +70,11 @@ fill_slots-requires c =
 pub returns : goal.returns
 unfolding positions_number positions_slots positions_lines
 returns c =
-    let d = done (lines_to6 (settings (goal.at.returns c).Start)) 13 (wrong (goal.at.returns c).Start) c.args.slots.now (wanted (goal.at.returns c).Start) (numbered_6 (settings (goal.at.returns c).Start)) (none (goal.at.returns c).Else-n-ne0)
+    let d = done (lines_to6 (settings_of c.args.m c.args.log2_slice_len c.args.ll c.args.sb c.args.buckets)) 13 (lent_wrong (settings_of c.args.m c.args.log2_slice_len c.args.ll c.args.sb c.args.buckets) c.args.seeds.now c.args.hashes.now c.args.slots.now) c.args.slots.now (wanted (settings_of c.args.m c.args.log2_slice_len c.args.ll c.args.sb c.args.buckets) c.args.seeds.now c.args.hashes.now) (numbered_6 (settings_of c.args.m c.args.log2_slice_len c.args.ll c.args.sb c.args.buckets)) (none (goal.at.returns c).Else-n-ne0)
     (not_or (not (eqb (length c.args.seeds.now) c.args.buckets)) (not (eqb (length c.args.slots.now) (length c.args.hashes.now)))
     (not_not (eqb (length c.args.seeds.now) c.args.buckets) (eq→eqb (length c.args.seeds.now) c.args.buckets c.if-seeds-buckets.false))
     (not_not (eqb (length c.args.slots.now) (length c.args.hashes.now)) (eq→eqb (length c.args.slots.now) (length c.args.hashes.now) c.if-slots-hashes.false))) in
-    let same = ap (λ (x : Settings). map (slot_of x c.args.seeds.now) c.args.hashes.now) (settings_are c.geometry_of.result (settings (goal.at.returns c).Start) c.geometry_of.ensures) in
+    let same = ap (λ (x : Settings). map (slot_of x c.args.seeds.now) c.args.hashes.now) (settings_are c.geometry_of.result (settings_of c.args.m c.args.log2_slice_len c.args.ll c.args.sb c.args.buckets) c.geometry_of.ensures) in
     record {
       answer = d.0;
       found = c.fill_slots.ensures ∙ same ∙ d.1;

@@ -8,12 +8,12 @@ use Rattle.exports.proofs.checking.tell.Goals as goal
 
 pub returns-in-Accepted : goal.returns-in-Accepted
 unfolding said_matched number_told bucket_told
-returns-in-Accepted c = rw c.enum_told-1.given.1 (refl, refl)
+returns-in-Accepted c = rw c.in-Accepted.is (record { answer = refl; named = refl })
 
 pub returns-in-Bucket : goal.returns-in-Bucket
 unfolding said_matched named_by number_told bucket_told
-returns-in-Bucket c = rw (c.matched-1.given.1, c.named-1.given.1) (refl, refl)
+returns-in-Bucket c = rw c.in-Bucket.is (record { answer = refl; named = refl })
 
 pub returns-in-NoBucket : goal.returns-in-NoBucket
 unfolding said_matched named_by number_told bucket_told
-returns-in-NoBucket c = rw (c.matched-1.given.1, c.enum_told-in-Refused-1.given.1) (refl, refl)
+returns-in-NoBucket c = rw c.in-NoBucket.is (record { answer = refl; named = refl })

@@ -7,8 +7,8 @@ use Rattle.exports.proofs.sizing.phastr_bucket_count.Goals as goal
 
 pub returns-in-Buckets : goal.returns-in-Buckets
 unfolding said_counted number_told value_told
-returns-in-Buckets c = rw (← c.bucket_count.ensures, c.n-1.given.1) (refl, refl)
+returns-in-Buckets c = let e = c.in-Buckets.ensures in record { answer = rw (← e) refl; counted = rw (← e) refl }
 
 pub returns-in-Refused : goal.returns-in-Refused
 unfolding said_counted number_told value_told
-returns-in-Refused c = rw (← c.bucket_count.ensures, c.number-1.given.1) (refl, refl)
+returns-in-Refused c = let e = c.in-Refused.ensures in record { answer = rw (← e) refl; counted = rw (← e) refl }

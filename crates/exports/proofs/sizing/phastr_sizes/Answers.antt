@@ -18,30 +18,29 @@ use Rattle.exports.specs.Sizes.{sizes_lines, sizes_number, sizes_after}
 use Rattle.exports.proofs.Closing.{earlier, last, done}
 use Rattle.exports.proofs.Fields.{settings_are, entries_are}
 use Rattle.exports.proofs.sizing.phastr_sizes.Goals as goal
-use Rattle.exports.proofs.sizing.phastr_sizes.Goals.{Else-n-ne0, Start}
-
-abbrev settings : tie.Start → Settings
-settings c = settings_of c.args.m c.args.log2-slice-len c.args.ll c.args.sb c.args.buckets
+use Rattle.exports.proofs.sizing.phastr_sizes.Goals.{Else-n-ne0}
 
 -- what the call wants lent
-abbrev wanted : tie.Start → List ℕ
-wanted c = work_words (settings c) c.args.z ∷ entries (settings c) ∷ bitmap_words c.args.m ∷ []
-module _ (c : tie.Else1) where
-  none : first_of (lines_to7 (settings c.before.before)) ≡ 0
-  none = sym c.before.number-to-7.ensures.0 ∙ c.if1.false
-  good : Good (settings c.before.before)
-  good = passes_7 (settings c.before.before) none
+abbrev wanted : Settings → (m z : ℕ) → List ℕ
+wanted s m z = work_words s z ∷ entries s ∷ bitmap_words m ∷ []
+
+-- none of 1 to 7 applies
+none : (c : goal.Else-n-ne0) → first_of (lines_to7 (settings_of c.args.m c.args.log2_slice_len c.args.ll c.args.sb c.args.buckets)) ≡ 0
+none c = sym c.number_to_7-n.ensures.0 ∙ c.if-n-ne0.false
+
+good : (c : goal.Else-n-ne0) → Good (settings_of c.args.m c.args.log2_slice_len c.args.ll c.args.sb c.args.buckets)
+good c = passes_7 (settings_of c.args.m c.args.log2_slice_len c.args.ll c.args.sb c.args.buckets) (none c)
 
 pub returns-then-n-ne0 : goal.returns-then-n-ne0
 unfolding sizes_number sizes_after sizes_lines
 returns-then-n-ne0 c =
-    let whole = earlier (lines_to7 (settings (goal.at.returns-then-n-ne0 c).Start)) 10 (ltb 4096 c.args.z) c.args.sizes.now (wanted (goal.at.returns-then-n-ne0 c).Start) c.number_to_7-n.result c.number_to_7-n.ensures.0 c.if-n-ne0.true in
+    let whole = earlier (lines_to7 (settings_of c.args.m c.args.log2_slice_len c.args.ll c.args.sb c.args.buckets)) 10 (ltb 4096 c.args.z) c.args.sizes.now (wanted (settings_of c.args.m c.args.log2_slice_len c.args.ll c.args.sb c.args.buckets) c.args.m c.args.z) c.number_to_7-n.result c.number_to_7-n.ensures.0 c.if-n-ne0.true in
     record { answer = whole.0; sized = whole.1 }
 
 pub returns-then-z-gt4096 : goal.returns-then-z-gt4096
 unfolding sizes_number sizes_after sizes_lines
 returns-then-z-gt4096 c =
-    let whole = last (lines_to7 (settings (goal.at.returns-then-z-gt4096 c).Start)) 10 (ltb 4096 c.args.z) c.args.sizes.now (wanted (goal.at.returns-then-z-gt4096 c).Start) (numbered_7 (settings (goal.at.returns-then-z-gt4096 c).Start)) (none (goal.at.returns-then-z-gt4096 c).Else-n-ne0) (λ q. omega arith) (lt→ltb 4096 c.args.z c.if-z-gt4096.true) in
+    let whole = last (lines_to7 (settings_of c.args.m c.args.log2_slice_len c.args.ll c.args.sb c.args.buckets)) 10 (ltb 4096 c.args.z) c.args.sizes.now (wanted (settings_of c.args.m c.args.log2_slice_len c.args.ll c.args.sb c.args.buckets) c.args.m c.args.z) (numbered_7 (settings_of c.args.m c.args.log2_slice_len c.args.ll c.args.sb c.args.buckets)) (none (goal.at.returns-then-z-gt4096 c).Else-n-ne0) (λ q. omega arith) (lt→ltb 4096 c.args.z c.if-z-gt4096.true) in
     record { answer = whole.0; sized = whole.1 }
 
 pub geometry_of-g-requires : goal.geometry_of-g-requires
@@ -60,9 +59,9 @@ overflow_add-sizes c = record { fits = omega (arith, (good (goal.at.overflow_add
 pub returns : goal.returns
 unfolding sizes_number sizes_after sizes_lines
 returns c =
-    let w = c.work_words-words.ensures.0 ∙ ap (λ (x : Settings). work_words x c.args.z) (settings_are c.geometry_of-g.result (settings (goal.at.returns c).Start) c.geometry_of-g.ensures) in
-    let e = entries_are c.geometry_of-g.result (settings (goal.at.returns c).Start) c.geometry_of-g.ensures in
-    let d = done (lines_to7 (settings (goal.at.returns c).Start)) 10 (ltb 4096 c.args.z) c.args.sizes.now (wanted (goal.at.returns c).Start) (numbered_7 (settings (goal.at.returns c).Start)) (none (goal.at.returns c).Else-n-ne0) (le→nltb 4096 c.args.z c.if-z-gt4096.false) in
+    let w = c.work_words-words.ensures.0 ∙ ap (λ (x : Settings). work_words x c.args.z) (settings_are c.geometry_of-g.result (settings_of c.args.m c.args.log2_slice_len c.args.ll c.args.sb c.args.buckets) c.geometry_of-g.ensures) in
+    let e = entries_are c.geometry_of-g.result (settings_of c.args.m c.args.log2_slice_len c.args.ll c.args.sb c.args.buckets) c.geometry_of-g.ensures in
+    let d = done (lines_to7 (settings_of c.args.m c.args.log2_slice_len c.args.ll c.args.sb c.args.buckets)) 10 (ltb 4096 c.args.z) c.args.sizes.now (wanted (settings_of c.args.m c.args.log2_slice_len c.args.ll c.args.sb c.args.buckets) c.args.m c.args.z) (numbered_7 (settings_of c.args.m c.args.log2_slice_len c.args.ll c.args.sb c.args.buckets)) (none (goal.at.returns c).Else-n-ne0) (le→nltb 4096 c.args.z c.if-z-gt4096.false) in
     record {
       answer = d.0;
       sized = ap₂ (λ (x y : ℕ). x ∷ y ∷ bitmap_words c.args.m ∷ []) w e ∙ d.1;

@@ -7,5 +7,11 @@ pub returns : goal.returns
 unfolding said_sweep
 returns c =
     let s = c.sweep-record.ensures in
-    let t = rw s.0 at c.tell.ensures in
-    (t.0, (s.1.0, (s.1.1.0, (s.1.1.1, t.1))))
+    record {
+      answer = rw s.answer at c.tell.ensures.answer;
+      given = s.given;
+      marked = s.marked;
+      worked = s.worked;
+      counted = rw s.answer at c.tell.ensures.counted;
+      named = rw s.answer at c.tell.ensures.named;
+    }

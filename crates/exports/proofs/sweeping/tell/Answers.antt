@@ -7,12 +7,12 @@ use Rattle.exports.proofs.sweeping.tell.Goals as goal
 
 pub returns-in-Done : goal.returns-in-Done
 unfolding said_outcome count_values number_told values_told bucket_told
-returns-in-Done c = rw c.outcome-1.given.1 (refl, (refl, refl))
+returns-in-Done c = rw c.in-Done.is (record { answer = refl; counted = refl; named = refl })
 
 pub returns-in-Bucket : goal.returns-in-Bucket
 unfolding said_outcome named_by number_told values_told bucket_told
-returns-in-Bucket c = rw (c.outcome-in-Refused-1.given.1, c.named-1.given.1) (refl, (refl, refl))
+returns-in-Bucket c = rw c.in-Bucket.is (record { answer = refl; counted = refl; named = refl })
 
 pub returns-in-NoBucket : goal.returns-in-NoBucket
 unfolding said_outcome named_by number_told values_told bucket_told
-returns-in-NoBucket c = rw (c.outcome-in-Refused-1.given.1, c.enum_told-1.given.1) (refl, (refl, refl))
+returns-in-NoBucket c = rw c.in-NoBucket.is (record { answer = refl; counted = refl; named = refl })

@@ -12,18 +12,18 @@ use Rattle.geometry.proofs.count.bucket_count.Goals.{After-size_cap-cap, Else-k-
 abbrev after3 : (s k : ℕ) → Float → Said
 after3 s k z = unless (cond (not (size_fits (size_cap s) z)) 16 (cond (ltb 67108864 k) 17 0)) (Answer (buckets_for k z ∷ []))
 
-past3 : (c : goal.Else-log2_slice_len-gt16) → count_answer c.args.log2-slice-len c.args.k c.args.size ≡ after3 c.args.log2-slice-len c.args.k c.args.size
+past3 : (c : goal.Else-log2_slice_len-gt16) → count_answer c.args.log2_slice_len c.args.k c.args.size ≡ after3 c.args.log2_slice_len c.args.k c.args.size
 unfolding count_answer first_of count_lines line3
 past3 c = rw (le-ltb _ _ c.if-log2_slice_len-lt3.false, le-ltb _ _ c.if-log2_slice_len-gt16.false) refl
 
 -- the size's test, in the terms of the contract
-test : (c : goal.After-size_cap-cap) → not (size_fits (size_cap c.args.log2-slice-len) c.args.size) ≡ (low_test c.args.size || high_test c.size_cap-cap.result c.args.size)
+test : (c : goal.After-size_cap-cap) → not (size_fits (size_cap c.args.log2_slice_len) c.args.size) ≡ (low_test c.args.size || high_test c.size_cap-cap.result c.args.size)
 test c = ap (λ (n : ℕ). not (size_fits n c.args.size)) (sym c.size_cap-cap.ensures.0) ∙ by_tests c.size_cap-cap.result c.args.size c.size_cap-cap.ensures.1
 
 -- past the size's test
-past16 : (c : goal.Else-not-size-cap) → count_answer c.args.log2-slice-len c.args.k c.args.size ≡ unless (cond (ltb 67108864 c.args.k) 17 0) (Answer (buckets_for c.args.k c.args.size ∷ []))
+past16 : (c : goal.Else-not-size-cap) → count_answer c.args.log2_slice_len c.args.k c.args.size ≡ unless (cond (ltb 67108864 c.args.k) 17 0) (Answer (buckets_for c.args.k c.args.size ∷ []))
 past16 c =
-    past3 c ∙ (rw (test c, c.if-not-size.false-raw, c.if-not-size-cap.false-raw) refl)
+    past3 c.before.before.before.before ∙ (rw (test c.before.before.before, c.if-not-size.false-raw, c.if-not-size-cap.false-raw) refl)
 
 size_is : (c : goal.Else-k-gt67108864) → Sizes c.size_cap-cap.result c.args.size
 size_is c = sizes c.size_cap-cap.result c.args.size (fits_by c.size_cap-cap.result c.args.size c.size_cap-cap.ensures.1 c.if-not-size.false-raw c.if-not-size-cap.false-raw)

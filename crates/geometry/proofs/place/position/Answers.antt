@@ -12,7 +12,7 @@ size : (c : goal.Start) → Sized c.args.g
 size c = sized c.args.g c.requires
 
 -- the layout of the seed
-abbrev layout : tie.Start → ℕ
+abbrev layout : goal.Start → ℕ
 layout c = bit_and c.args.seed (c.args.g.layouts - 1)
 
 layout_is : (c : goal.Start) → layout c ≡ c.args.seed % c.args.g.layouts
@@ -27,7 +27,7 @@ seed_small : (c : goal.Start) → c.args.seed * 2 ^ c.args.g.scale < 2 ^ 32
 seed_small c = seed_lt c.args.seed c.args.g.scale (omega arith) (size c).scale_high
 
 -- what the code adds to the slice, for an offset o
-abbrev inner : tie.Start → ℕ → ℕ
+abbrev inner : goal.Start → ℕ → ℕ
 inner c o = bit_and (o / 2 ^ (layout c * c.args.g.layout_bits)) (c.args.g.l - 1) + (c.args.seed * 2 ^ c.args.g.scale) % 2 ^ 64
 
 inner_is : (c : goal.Start) (o : ℕ) → bit_and (inner c o) (c.args.g.l - 1) ≡ (o / 2 ^ (layout c * c.args.g.layout_bits) + c.args.seed * 2 ^ c.args.g.scale) % c.args.g.l

@@ -5,6 +5,14 @@ use Rattle.std.proofs.Common.{◌≡◌, [], ◌∷◌, sym, refl, ap, ◌∙◌
 use Rattle.geometry.proofs.settings.number_to_7.Goals as goal
 use Rattle.geometry.proofs.settings.number_to_7.Goals.{Else-n-ne0}
 
+-- none of 1 to 6 applies
+none : (c : goal.Else-n-ne0) → first_of (lines_to6 c.args.s) ≡ 0
+none c = sym c.number_to_6-n.ensures.0 ∙ c.if-n-ne0.false
+
+rest : (c : goal.Else-n-ne0) → first_of (lines_to7 c.args.s) ≡ first_of (line7 c.args.s ∷ [])
+unfolding lines_to7
+rest c = first_append_zero (lines_to6 c.args.s) (line7 c.args.s ∷ []) (numbered_6 c.args.s) (none c)
+
 pub returns-then-n-ne0 : goal.returns-then-n-ne0
 unfolding lines_to7
 returns-then-n-ne0 c =
@@ -13,7 +21,7 @@ returns-then-n-ne0 c =
     (e ∙ sym (first_append_some (lines_to6 s) (line7 s ∷ []) (λ z. c.if-n-ne0.true (e ∙ z))), omega (arith, c.number_to_6-n.ensures.1))
 
 pub per_bucket-requires : goal.per_bucket-requires
-per_bucket-requires c = passes_6 c.args.s (none c)
+per_bucket-requires c = passes_6 c.args.s (none (goal.at.per_bucket-requires c).Else-n-ne0)
 
 pub returns-then-per_bucket-gt4096 : goal.returns-then-per_bucket-gt4096
 unfolding first_of line7

@@ -1,7 +1,6 @@
 -- `split` takes the groups apart as `hashes_of` and `begins_of` say: each turn keeps `Splitting`. Assumes nothing.
-use Rattle.list_input.specs.SplitLaws.{Splitting, split_start, hashes_most, hash_room, split_hash, begin_room, split_count, last_room, split_hashes, split_begins, split_keys}
+use Rattle.list_input.specs.SplitLaws.{Splitting}
 use lib.ListN.{length}
-use native.Mathlib.Omega.{arith}
 use Prim.Native.Nat.{◌-◌}
 use Rattle.list_input.proofs.asked.split.Given as goal
 

@@ -1,6 +1,5 @@
 -- `weight_of` reads a weight as `weight_of` says: half of the number, or -1 less that half. Assumes nothing.
 use Rattle.list_input.specs.AskedLaws.{weight_even, weight_odd, odd_fits}
-use borrow.Author.Rules.{rules}
 use Rattle.list_input.proofs.asked.weight_of.Goals as goal
 
 pub returns-then-n-eq0 : goal.returns-then-n-eq0

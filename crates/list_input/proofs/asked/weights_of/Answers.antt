@@ -6,7 +6,6 @@ use mir.Syntax.{w64}
 use lib.IntN.{ℤ}
 use mathlib.Core.List.{[], ◌∷◌}
 use mathlib.Core.Path.{◌≡◌, ◌∙◌}
-use borrow.Author.Rules.{rules}
 use Rattle.list_input.proofs.asked.weights_of.Goals as goal
 
 back : (z w : ℤ) → SFits w64 z → z ≡ w → to_z w64 (of_z w64 z) ≡ w
@@ -20,10 +19,10 @@ pub returns : goal.returns
 unfolding weights_of
 returns c =
     seven _ _ _ _ _ _ _ _ _ _ _ _ _ _
-    (back _ _ (record { sfits = c.weight_of.type-inv }) c.weight_of.ensures)
-    (back _ _ (record { sfits = c.weight_of-2.type-inv }) c.weight_of-2.ensures)
-    (back _ _ (record { sfits = c.weight_of-3.type-inv }) c.weight_of-3.ensures)
-    (back _ _ (record { sfits = c.weight_of-4.type-inv }) c.weight_of-4.ensures)
-    (back _ _ (record { sfits = c.weight_of-5.type-inv }) c.weight_of-5.ensures)
-    (back _ _ (record { sfits = c.weight_of-6.type-inv }) c.weight_of-6.ensures)
-    (back _ _ (record { sfits = c.weight_of-7.type-inv }) c.weight_of-7.ensures)
+    (back _ _ (record { sfits = c.weight_of.type_inv }) c.weight_of.ensures)
+    (back _ _ (record { sfits = c.weight_of-2.type_inv }) c.weight_of-2.ensures)
+    (back _ _ (record { sfits = c.weight_of-3.type_inv }) c.weight_of-3.ensures)
+    (back _ _ (record { sfits = c.weight_of-4.type_inv }) c.weight_of-4.ensures)
+    (back _ _ (record { sfits = c.weight_of-5.type_inv }) c.weight_of-5.ensures)
+    (back _ _ (record { sfits = c.weight_of-6.type_inv }) c.weight_of-6.ensures)
+    (back _ _ (record { sfits = c.weight_of-7.type_inv }) c.weight_of-7.ensures)

@@ -2,7 +2,6 @@
 use Rattle.list_input.specs.Scan.{form_step}
 use borrow.Author.Tests.{lt-ltb, le-ltb}
 use mathlib.Core.Path.{◌∙◌}
-use borrow.Author.Rules.{rules}
 use Rattle.list_input.proofs.numbers.form_step.Goals as goal
 
 pub returns-then-form-lt13 : goal.returns-then-form-lt13

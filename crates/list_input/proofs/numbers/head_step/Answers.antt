@@ -1,7 +1,6 @@
 -- `head_step` is `head_step`, at the last number of the head and before it. Assumes nothing.
 use Rattle.list_input.specs.Scan.{head_step}
 use borrow.Author.Tests.{ne_eqb, eq-eqb}
-use borrow.Author.Rules.{rules}
 use Rattle.list_input.proofs.numbers.head_step.Goals as goal
 
 pub returns-then-head-eq12 : goal.returns-then-head-eq12

@@ -1,7 +1,7 @@
 -- `still_fine` tests the bump flag as `flag_fits` says. Assumes nothing.
 use Rattle.list_input.specs.Scan.{flag_fits}
 use borrow.Author.Tests.{lt-leb, le-leb, ne_eqb, eq-eqb}
-use mathlib.Core.Bool.{and-true, and_false}
+use mathlib.Core.Bool.{and-true, and-false}
 use mathlib.Core.Path.{sym}
 use Rattle.list_input.proofs.numbers.still_fine.Goals as goal
 
@@ -11,7 +11,7 @@ returns-then-head-ne4 c = simp (ne_eqb _ _ c.if-head-ne4.true) (sym (and-true c.
 
 pub returns-then-v-gt1 : goal.returns-then-v-gt1
 unfolding flag_fits
-returns-then-v-gt1 c = simp (eq-eqb _ _ c.if-head-ne4.false, lt-leb _ _ c.if-v-gt1.true) (sym (and_false c.args.fine))
+returns-then-v-gt1 c = simp (eq-eqb _ _ c.if-head-ne4.false, lt-leb _ _ c.if-v-gt1.true) (sym (and-false c.args.fine))
 
 pub returns : goal.returns
 unfolding flag_fits

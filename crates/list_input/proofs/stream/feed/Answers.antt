@@ -1,12 +1,8 @@
 -- `feed` takes bytes as `fed_scan` and `fed_numbers` say: feeding the rest from the present state gives at each turn what feeding all of
 -- them gives. Assumes nothing.
 use Rattle.list_input.specs.ScanLaws.{fed_end, fed_step, numbers_end, numbers_step}
-use Rattle.list_input.specs.Scan.{fed_scan, fed_numbers}
-use lib.ListN.{length, drop}
-use mathlib.Core.Path.{◌≡◌, refl, sym, ◌∙◌}
-use borrow.Author.Rules.{rules}
+use mathlib.Core.Path.{refl, sym, ◌∙◌}
 use native.Mathlib.Omega.{arith}
-use Prim.Native.Nat.{◌-◌}
 use Rattle.list_input.proofs.stream.feed.Goals as goal
 
 pub loop-i-init : goal.loop-i-init

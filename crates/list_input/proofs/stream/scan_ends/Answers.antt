@@ -2,7 +2,6 @@
 use Rattle.list_input.specs.Scan.{scan_ends}
 use borrow.Author.Tests.{eq-eqb, ne_eqb}
 use mathlib.Core.Path.{◌∙◌}
-use borrow.Author.Rules.{rules}
 use Rattle.list_input.proofs.stream.scan_ends.Goals as goal
 
 pub returns-then-part-ne0 : goal.returns-then-part-ne0

@@ -1,11 +1,10 @@
 -- `put` copies bytes one by one: each turn writes one piece more. Assumes nothing.
 use native.Mathlib.Nat.{add-zero}
-use Rattle.list_output.specs.Writing.{Writing, write_start, write_piece, write_text, write_end, rest_element, rest_end}
-use lib.ListN.{length, get_or, drop}
+use Rattle.list_output.specs.Writing.{write_start, write_piece, write_text, write_end, rest_element, rest_end}
+use lib.ListN.{get_or}
 use mathlib.Core.List.{[], ◌∷◌}
 use mathlib.Core.Path.{refl}
 use native.Mathlib.Omega.{arith}
-use Prim.Native.Nat.{◌+◌, ◌-◌, ◌≤◌}
 use Rattle.list_output.proofs.lines.put.Goals as goal
 
 pub loop-i-init : goal.loop-i-init

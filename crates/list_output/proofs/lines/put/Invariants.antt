@@ -1,10 +1,6 @@
 -- `put` copies bytes one by one: each turn writes one piece more. Assumes nothing.
-use native.Mathlib.Nat.{add-zero}
-use Rattle.list_output.specs.Writing.{Writing, write_start, write_piece, write_text, write_end, rest_element, rest_end}
-use lib.ListN.{length, get_or, drop}
-use mathlib.Core.List.{[], ◌∷◌}
-use mathlib.Core.Path.{refl}
-use native.Mathlib.Omega.{arith}
+use Rattle.list_output.specs.Writing.{Writing}
+use lib.ListN.{length, drop}
 use Prim.Native.Nat.{◌+◌, ◌-◌, ◌≤◌}
 use Rattle.list_output.proofs.lines.put.Given as goal
 

@@ -1,12 +1,10 @@
 -- `put_fields` writes a field at each turn. Assumes nothing.
 use Rattle.list_output.specs.Text.{decimal}
 use mathlib.Core.List.{◌∷◌}
-use Rattle.list_output.specs.Writing.{Writing, write_start, write_piece, write_text, write_end}
+use Rattle.list_output.specs.Writing.{write_start, write_piece, write_text, write_end}
 use Rattle.list_output.specs.TextLaws.{fields_number, fields_end}
-use Rattle.list_output.specs.Text.{fields}
-use lib.ListN.{length, drop, get_or}
+use lib.ListN.{get_or}
 use native.Mathlib.Omega.{arith}
-use Prim.Native.Nat.{◌+◌, ◌*◌, ◌-◌, ◌≤◌}
 use Rattle.list_output.proofs.lines.put_fields.Goals as goal
 
 pub loop-i-init : goal.loop-i-init
@@ -31,7 +29,7 @@ pub loop-i-preserved : goal.loop-i-preserved
 loop-i-preserved c =
     let ns = c.args.numbers.now in
     let p = c.put_number-place.ensures in
-    (write_piece c.loop-i.invariant.0 (32 ∷ decimal (get_or ns c.loop-i.i 0)) _ _ _ (fields_number ns c.loop-i.i c.loop-i-test.true) p.1 p.0.0, omega arith, omega (arith, p.0.1))
+    (write_piece c.loop-i.invariant.0 (32 ∷ decimal (get_or ns c.loop-i.i 0)) _ _ _ (fields_number ns c.loop-i.i c.loop-i-test.true) p.out_after p.value.0, omega arith, omega (arith, p.value.1))
 
 pub shape_of-out : goal.shape_of-out
 shape_of-out c = c.loop-i.invariant.0.same

@@ -1,11 +1,7 @@
 -- `put_fields` writes a field at each turn. Assumes nothing.
-use Rattle.list_output.specs.Text.{decimal}
-use mathlib.Core.List.{◌∷◌}
-use Rattle.list_output.specs.Writing.{Writing, write_start, write_piece, write_text, write_end}
-use Rattle.list_output.specs.TextLaws.{fields_number, fields_end}
+use Rattle.list_output.specs.Writing.{Writing}
 use Rattle.list_output.specs.Text.{fields}
-use lib.ListN.{length, drop, get_or}
-use native.Mathlib.Omega.{arith}
+use lib.ListN.{length, drop}
 use Prim.Native.Nat.{◌+◌, ◌*◌, ◌-◌, ◌≤◌}
 use Rattle.list_output.proofs.lines.put_fields.Given as goal
 

@@ -7,7 +7,6 @@ use Rattle.list_output.specs.TextLaws.{line_written}
 use mathlib.Core.Path.{refl}
 use native.Mathlib.Omega.{arith}
 use Prim.Native.Nat.{◌+◌}
-use borrow.Author.Rules.{rules}
 use Rattle.list_output.proofs.lines.put_line.Goals as goal
 use Rattle.list_output.proofs.lines.put_line.Goals.{After-slice_known-3-1}
 

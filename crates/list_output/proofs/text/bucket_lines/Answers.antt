@@ -1,16 +1,14 @@
 -- `bucket_lines` writes a line at each turn, from the bucket's keys and seed. Assumes nothing.
-use Rattle.list_output.specs.Writing.{Writing, write_start, write_piece, write_text, write_end}
+use Rattle.list_output.specs.Writing.{write_start, write_piece, write_text, write_end}
 use Rattle.list_output.specs.TextLaws.{lines_number, lines_none, bucket_line_is}
-use Rattle.list_output.specs.Text.{line, bucket_line}
-use Rattle.rules.specs.Lists.{below, count_from, concat_map}
+use Rattle.list_output.specs.Text.{bucket_line}
 use lib.Seq.{sets}
 use lib.ListN.{length}
 use mathlib.Core.List.{List}
 use mathlib.Core.Path.{ap, ◌∙◌}
-use borrow.Author.Rules.{rules}
 use native.Mathlib.Nat.{sub-zero}
 use native.Mathlib.Omega.{arith}
-use Prim.Native.Nat.{ℕ, ◌+◌, ◌*◌, ◌-◌, ◌≤◌}
+use Prim.Native.Nat.{ℕ, ◌+◌}
 use Rattle.list_output.proofs.text.bucket_lines.Goals as goal
 
 pub loop-b-init : goal.loop-b-init
@@ -40,9 +38,9 @@ loop-b-preserved c =
     let p = c.bucket_line-place.ensures in
     let e = bucket_line_is a.begins.now a.seeds.now c.loop-b.b _ _ c.size_of.ensures.0 c.wide16.ensures in (
       write_piece c.loop-b.invariant.0 (bucket_line a.begins.now a.seeds.now c.loop-b.b) _ _ _ (lines_number (bucket_line a.begins.now a.seeds.now) (length a.seeds.now) c.loop-b.b c.loop-b-test.true)
-          (p.1 ∙ ap (sets c.loop-b.out c.loop-b.place) e) (p.0.0 ∙ ap (λ (t : List ℕ). c.loop-b.place + length t) e),
+          (p.out_after ∙ ap (sets c.loop-b.out c.loop-b.place) e) (p.value.0 ∙ ap (λ (t : List ℕ). c.loop-b.place + length t) e),
       omega arith,
-      omega (arith, p.0.1),
+      omega (arith, p.value.1),
     )
 
 pub shape_of-out : goal.shape_of-out

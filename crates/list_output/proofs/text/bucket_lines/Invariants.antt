@@ -1,16 +1,9 @@
 -- `bucket_lines` writes a line at each turn, from the bucket's keys and seed. Assumes nothing.
-use Rattle.list_output.specs.Writing.{Writing, write_start, write_piece, write_text, write_end}
-use Rattle.list_output.specs.TextLaws.{lines_number, lines_none, bucket_line_is}
-use Rattle.list_output.specs.Text.{line, bucket_line}
+use Rattle.list_output.specs.Writing.{Writing}
+use Rattle.list_output.specs.Text.{bucket_line}
 use Rattle.rules.specs.Lists.{below, count_from, concat_map}
-use lib.Seq.{sets}
 use lib.ListN.{length}
-use mathlib.Core.List.{List}
-use mathlib.Core.Path.{ap, ◌∙◌}
-use borrow.Author.Rules.{rules}
-use native.Mathlib.Nat.{sub-zero}
-use native.Mathlib.Omega.{arith}
-use Prim.Native.Nat.{ℕ, ◌+◌, ◌*◌, ◌-◌, ◌≤◌}
+use Prim.Native.Nat.{◌+◌, ◌*◌, ◌-◌, ◌≤◌}
 use Rattle.list_output.proofs.text.bucket_lines.Given as goal
 
 abbrev pub invariant-loop-b : goal.invariant-loop-b

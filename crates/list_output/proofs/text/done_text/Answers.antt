@@ -6,7 +6,6 @@ use Rattle.rules.specs.Lists.{below, concat_map}
 use lib.ListN.{length}
 use mathlib.Core.Path.{refl}
 use native.Mathlib.Omega.{arith}
-use borrow.Author.Rules.{rules}
 use Rattle.list_output.proofs.text.done_text.Goals as goal
 
 pub returns : goal.returns

@@ -1,7 +1,6 @@
 -- `hole_line` is one line of one number. Assumes nothing.
 use Rattle.list_output.specs.Text.{hole_line}
 use native.Mathlib.Omega.{arith}
-use borrow.Author.Rules.{rules}
 use Rattle.list_output.proofs.text.hole_line.Goals as goal
 
 pub returns : goal.returns
@@ -9,6 +8,6 @@ unfolding hole_line
 returns c =
     let p = c.put_line.ensures in
     record {
-      value = (p.0.0, omega (arith, p.0.1));
-      out_after = p.1;
+      value = (p.value.0, omega (arith, p.value.1));
+      out_after = p.out_after;
     }

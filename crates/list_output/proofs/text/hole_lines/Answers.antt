@@ -1,15 +1,13 @@
 -- `hole_lines` writes a line at each turn. Assumes nothing.
-use Rattle.list_output.specs.Writing.{Writing, write_start, write_piece, write_text, write_end}
+use Rattle.list_output.specs.Writing.{write_start, write_piece, write_text, write_end}
 use Rattle.list_output.specs.TextLaws.{lines_element, lines_end}
 use Rattle.list_output.specs.Text.{hole_line}
-use Rattle.rules.specs.Lists.{concat_map}
 use lib.Seq.{sets}
-use lib.ListN.{length, get_or, drop}
+use lib.ListN.{length, get_or}
 use mathlib.Core.List.{List}
 use mathlib.Core.Path.{ap, ◌∙◌}
-use borrow.Author.Rules.{rules}
 use native.Mathlib.Omega.{arith}
-use Prim.Native.Nat.{ℕ, ◌+◌, ◌*◌, ◌-◌, ◌≤◌}
+use Prim.Native.Nat.{ℕ, ◌+◌}
 use Rattle.list_output.proofs.text.hole_lines.Goals as goal
 
 pub loop-i-init : goal.loop-i-init
@@ -36,9 +34,9 @@ loop-i-preserved c =
     let p = c.hole_line-place.ensures in
     let e = ap hole_line c.wide32.ensures in (
       write_piece c.loop-i.invariant.0 (hole_line (get_or holes c.loop-i.i 0)) _ _ _ (lines_element hole_line holes c.loop-i.i c.loop-i-test.true)
-          (p.1 ∙ ap (sets c.loop-i.out c.loop-i.place) e) (p.0.0 ∙ ap (λ (t : List ℕ). c.loop-i.place + length t) e),
+          (p.out_after ∙ ap (sets c.loop-i.out c.loop-i.place) e) (p.value.0 ∙ ap (λ (t : List ℕ). c.loop-i.place + length t) e),
       omega arith,
-      omega (arith, p.0.1),
+      omega (arith, p.value.1),
     )
 
 pub shape_of-out : goal.shape_of-out

@@ -1,15 +1,9 @@
 -- `hole_lines` writes a line at each turn. Assumes nothing.
-use Rattle.list_output.specs.Writing.{Writing, write_start, write_piece, write_text, write_end}
-use Rattle.list_output.specs.TextLaws.{lines_element, lines_end}
+use Rattle.list_output.specs.Writing.{Writing}
 use Rattle.list_output.specs.Text.{hole_line}
 use Rattle.rules.specs.Lists.{concat_map}
-use lib.Seq.{sets}
-use lib.ListN.{length, get_or, drop}
-use mathlib.Core.List.{List}
-use mathlib.Core.Path.{ap, ◌∙◌}
-use borrow.Author.Rules.{rules}
-use native.Mathlib.Omega.{arith}
-use Prim.Native.Nat.{ℕ, ◌+◌, ◌*◌, ◌-◌, ◌≤◌}
+use lib.ListN.{length, drop}
+use Prim.Native.Nat.{◌+◌, ◌*◌, ◌-◌, ◌≤◌}
 use Rattle.list_output.proofs.text.hole_lines.Given as goal
 
 abbrev pub invariant-loop-i : goal.invariant-loop-i

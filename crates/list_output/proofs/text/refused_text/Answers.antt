@@ -4,25 +4,24 @@ use lib.Seq.{sets}
 use lib.ListN.{length}
 use mathlib.Core.Path.{ap, ◌∙◌}
 use native.Mathlib.Omega.{arith}
-use borrow.Author.Rules.{rules}
 use Rattle.list_output.proofs.text.refused_text.Goals as goal
 
 pub returns-in-Bucket : goal.returns-in-Bucket
 returns-in-Bucket c =
     let a = c.args in
     let p = c.put_line.ensures in
-    let e = refused_bucket a.number _ a.named c.named-1.given.1 in
+    let e = refused_bucket a.number _ a.named c.in-Bucket.is in
     record {
-      value = (omega (arith, p.0.0, ap length e), omega (arith, p.0.1));
-      out_after = p.1 ∙ ap (sets a.out.now 0) e;
+      value = (omega (arith, p.value.0, ap length e), omega (arith, p.value.1));
+      out_after = p.out_after ∙ ap (sets a.out.now 0) e;
     }
 
 pub returns-in-NoBucket : goal.returns-in-NoBucket
 returns-in-NoBucket c =
     let a = c.args in
     let p = c.put_line-in-NoBucket.ensures in
-    let e = refused_plain a.number a.named c.enum_told-1.given.1 in
+    let e = refused_plain a.number a.named c.in-NoBucket.is in
     record {
-      value = (omega (arith, p.0.0, ap length e), omega (arith, p.0.1));
-      out_after = p.1 ∙ ap (sets a.out.now 0) e;
+      value = (omega (arith, p.value.0, ap length e), omega (arith, p.value.1));
+      out_after = p.out_after ∙ ap (sets a.out.now 0) e;
     }

@@ -1,11 +1,9 @@
 -- `sorting::neighbours::equal_neighbours` meets its contract. The invariant: whether the run has equal neighbours is whether they are among
 -- the keys from i on. Assumes nothing.
-use mathlib.Core.Path.{◌≡◌, refl, sym, ◌∙◌}
+use mathlib.Core.Path.{◌≡◌}
 use Prim.Native.Nat.{◌≤◌, ◌-◌}
-use native.Mathlib.Omega.{arith}
 use lib.ListN.{length, drop}
 use Rattle.sorting.specs.Runs.{twins}
-use Rattle.sorting.proofs.TwinSteps.{equal_pair, other_pair, no_pair}
 use Rattle.sorting.proofs.neighbours.equal_neighbours.Given as goal
 
 abbrev pub invariant-loop-i : goal.invariant-loop-i

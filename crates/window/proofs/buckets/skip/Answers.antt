@@ -1,19 +1,13 @@
 use Rattle.groups.specs.Groups.{size_in}
 use Rattle.words.specs.Cases.{same_or_not}
-use borrow.Author.Rules.{rules}
 use native.Mathlib.Omega.{arith}
-use Prim.Native.Nat.{ℕ, ◌+◌, ◌-◌, ◌≤◌, ◌<◌}
+use Prim.Native.Nat.{ℕ, ◌+◌, ◌<◌}
 use mathlib.Core.Logic.{⊎_elim}
 use mathlib.Core.List.{List}
 use mathlib.Core.Path.{◌≡◌, sym, ap, ◌∙◌}
+use Rattle.window.proofs.buckets.skip.Invariants.{Passed}
 use Rattle.window.proofs.buckets.skip.Goals as goal
-use Rattle.window.proofs.buckets.skip.Goals.{Start}
 
--- none from `from` on and below b has keys
-record Passed (begins : List ℕ) (from to b : ℕ) : Type 0 where
-  low : from ≤ b
-  high : b ≤ to
-  none : (x : ℕ) → from ≤ x → x < b → size_in begins x ≡ 0
 one_more : (begins : List ℕ) (from to b : ℕ) → Passed begins from to b → b < to → size_in begins b ≡ 0 → Passed begins from to (b + 1)
 one_more begins from to b h l z =
     record {

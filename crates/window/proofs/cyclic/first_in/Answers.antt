@@ -3,7 +3,6 @@ use Rattle.words.specs.NextLaws.{First, next_is}
 use native.Mathlib.Omega.{arith}
 use Prim.Native.Nat.{◌+◌, ◌-◌, ◌%◌}
 use mathlib.Core.Path.{sym, subst}
-use borrow.Author.Rules.{rules}
 use Rattle.window.proofs.cyclic.first_in.Goals as goal
 use Rattle.window.proofs.cyclic.first_in.Goals.{Start}
 

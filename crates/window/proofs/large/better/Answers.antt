@@ -1,4 +1,3 @@
-use borrow.Author.Rules.{rules}
 use borrow.Author.Tests.{lt-ltb, le-ltb}
 use mathlib.Core.Path.{◌≡◌, refl, sym, ap, ◌∙◌, subst}
 use mathlib.Core.Bool.{Bool, true, false, not, cond}
@@ -32,18 +31,21 @@ on false e = absurd (subst T e tt)
 key_back : (c : goal.After-key-k) → to_z w64 (of_z w64 c.key-k.result) ≡ large_key c.args.w6 c.args.w7 c.args.size c.args.b
 unfolding large_key
 key_back c =
-    let back : to_z w64 (of_z w64 c.key-k.result) ≡ c.key-k.result = to_z-of_z (record { sfits = c.key-k.type-inv }) in
+    let back : to_z w64 (of_z w64 c.key-k.result) ≡ c.key-k.result = to_z-of_z {w = w64} (record { sfits = c.key-k.type_inv }) in
     let made : c.key-k.result ≡ key_of c.beyond-w.result c.args.b =
     simp (to_z-of_z (small_fits c.beyond-w.result (omega (arith, c.beyond-w.ensures.result_bound)))) at c.key-k.ensures in
     let weighs : c.beyond-w.result ≡ beyond_of c.args.w6 c.args.w7 c.args.size = simp (to_z-of_z c.ranges.w6, to_z-of_z c.ranges.w7) at c.beyond-w.ensures.value in
     back ∙ made ∙ ap (λ (v : ℤ). key_of v c.args.b) weighs
+
 module _ (set : List ℕ) (w6 w7 : ℤ) (best : Best) (size b : ℕ) where
   few : size < 64 → best ≡ better_of set w6 w7 best size b
   unfolding better_of
   few l = simp (lt-ltb size 64 l)
+
   gone : 64 ≤ size → eqb (slot set (b % 1024)) 1 ≡ false → best ≡ better_of set w6 w7 best size b
   unfolding better_of
   gone l e = simp (le-ltb size 64 l, e)
+
   compared : (k : ℤ) (t : Bool) → 64 ≤ size → eqb (slot set (b % 1024)) 1 ≡ true → k ≡ large_key w6 w7 size b → lt_z best.key k ≡ t
       → cond t (record { bucket = b; key = k }) best ≡ better_of set w6 w7 best size b
   unfolding better_of
@@ -63,10 +65,10 @@ pub returns-then-best-k : goal.returns-then-best-k
 returns-then-best-k c =
     compared c.args.set.now c.args.w6 c.args.w7 c.args.best c.args.size c.args.b (to_z w64 (of_z w64 c.key-k.result)) true
     (omega (arith, c.if-size-lt64.false)) (sym c.is_occupied.ensures ∙ on _ c.if-not-is_occupied.false-raw) (key_back (goal.at.returns-then-best-k c).After-key-k)
-    (ap (λ (z : ℤ). lt_z z (to_z w64 (of_z w64 c.key-k.result))) (sym (to_z-of_z {z = c.args.best.key} (record { sfits = c.struct_told-1.given.1.0.1 }))) ∙ c.if-best-k.true)
+    (ap (λ (z : ℤ). lt_z z (to_z w64 (of_z w64 c.key-k.result))) (sym (to_z-of_z {w = w64} {z = c.args.best.key} (record { sfits = c.struct_told-1.given.1.0.1 }))) ∙ c.if-best-k.true)
 
 pub returns : goal.returns
 returns c =
     compared c.args.set.now c.args.w6 c.args.w7 c.args.best c.args.size c.args.b (to_z w64 (of_z w64 c.key-k.result)) false
     (omega (arith, c.if-size-lt64.false)) (sym c.is_occupied.ensures ∙ on _ c.if-not-is_occupied.false-raw) (key_back (goal.at.returns c).After-key-k)
-    (ap (λ (z : ℤ). lt_z z (to_z w64 (of_z w64 c.key-k.result))) (sym (to_z-of_z {z = c.args.best.key} (record { sfits = c.struct_told-1.given.1.0.1 }))) ∙ c.if-best-k.false)
+    (ap (λ (z : ℤ). lt_z z (to_z w64 (of_z w64 c.key-k.result))) (sym (to_z-of_z {w = w64} {z = c.args.best.key} (record { sfits = c.struct_told-1.given.1.0.1 }))) ∙ c.if-best-k.false)

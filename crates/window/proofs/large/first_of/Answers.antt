@@ -1,4 +1,3 @@
-use borrow.Author.Rules.{rules}
 use borrow.Author.Tests.{eq-eqb, ne_eqb}
 use mathlib.Core.Bool.{Bool, true, false, cond}
 use mathlib.Core.List.{List}
@@ -44,8 +43,8 @@ tested : (c : goal.After-key_of-l)
     → lt_z (key_in c.args.begins.now c.args.table.now (c.args.large - 1)) (key_in c.args.begins.now c.args.table.now c.args.b)
     ≡ lt_z (to_z w64 (of_z w64 c.key_of-k.result)) (to_z w64 (of_z w64 c.key_of-l.result))
 tested c =
-    let k : to_z w64 (of_z w64 c.key_of-k.result) ≡ c.key_of-k.result = to_z-of_z (record { sfits = c.key_of-k.type-inv }) in
-    let l : to_z w64 (of_z w64 c.key_of-l.result) ≡ c.key_of-l.result = to_z-of_z (record { sfits = c.key_of-l.type-inv }) in
+    let k : to_z w64 (of_z w64 c.key_of-k.result) ≡ c.key_of-k.result = to_z-of_z {w = w64} (record { sfits = c.key_of-k.type_inv }) in
+    let l : to_z w64 (of_z w64 c.key_of-l.result) ≡ c.key_of-l.result = to_z-of_z {w = w64} (record { sfits = c.key_of-l.type_inv }) in
     ap₂ lt_z (sym (k ∙ c.key_of-k.ensures)) (sym (l ∙ c.key_of-l.ensures))
 
 pub returns-then-k-l : goal.returns-then-k-l

@@ -1,11 +1,10 @@
 use mathlib.Core.Path.{◌≡◌, ◌∙◌, ap}
-use mathlib.Core.List.{[]}
-use Prim.Native.Nat.{ℕ, ◌+◌, ◌-◌, ◌%◌}
+use mathlib.Core.List.{List, []}
+use Prim.Native.Nat.{ℕ, ◌+◌, ◌-◌, ◌≤◌, ◌^◌, ◌%◌}
 use native.Mathlib.Omega.{arith}
-use borrow.Author.Rules.{rules}
 use borrow.Author.Tests.{eq-eqb, ne_eqb}
 use lib.ListN.{get_or}
-use lib.IntN.{ℤ, pos}
+use lib.IntN.{ℤ, pos, nat_abs}
 use mir.Syntax.{w64}
 use mir.Val.{SFits, to_z, of_z}
 use mir.Facts.{to_z-of_z}
@@ -15,7 +14,10 @@ use Rattle.integers.specs.Shifts.{one_shl}
 use Rattle.integers.specs.Ints.{small_fits}
 use Rattle.window.proofs.KeyLaws.{key_fits}
 use Rattle.window.proofs.queues.shift.Goals as goal
-use Rattle.window.proofs.queues.shift.Goals.{After-wide8-arg-1, Else-n-eq0}
+
+-- the weight fits
+entry : (table : List ℤ) (size : ℕ) → nat_abs (get_or table size (pos 0)) ≤ 2 ^ 40 → SFits w64 (get_or table size (pos 0))
+entry table size h = small_fits (get_or table size (pos 0)) (omega (arith, h))
 
 pub returns-then-n-eq0 : goal.returns-then-n-eq0
 returns-then-n-eq0 c =
@@ -27,7 +29,7 @@ returns-then-n-eq0 c =
 
 pub key-k-requires : goal.key-k-requires
 key-k-requires c =
-    simp (to_z-of_z (entry (goal.at.key-k-requires c).After-wide8-arg-1)) (c.requires.pos_bound, c.near-next.ensures.1)
+    simp (to_z-of_z (entry c.args.table.now c.args.size c.requires.pos_bound)) (c.requires.pos_bound, c.near-next.ensures.1)
 
 pub returns : goal.returns
 returns c =
@@ -36,7 +38,7 @@ returns c =
     c.near-next.ensures.0 ∙ ap (λ (x : ℕ). near_of (get_or (get_or c.args.queues.now c.args.size []) ((x + 1) % 256) 0) c.args.oldest) f in
     let v = key_fits (get_or c.args.table.now c.args.size (pos 0)) c.near-next.result c.requires.pos_bound c.near-next.ensures.1 in
     let k : c.key-k.result ≡ key_of (get_or c.args.table.now c.args.size (pos 0)) c.near-next.result =
-    simp (to_z-of_z (entry (goal.at.returns c).After-wide8-arg-1)) at c.key-k.ensures in
+    simp (to_z-of_z (entry c.args.table.now c.args.size c.requires.pos_bound)) at c.key-k.ensures in
     let kk : to_z w64 (of_z w64 c.key-k.result) ≡ key_of (get_or c.args.table.now c.args.size (pos 0)) (near_of (get_or (get_or c.args.queues.now c.args.size []) ((get_or c.args.heads.now c.args.size 0 + 1) % 256) 0) c.args.oldest) =
     ap (λ (z : ℤ). to_z w64 (of_z w64 z)) k ∙ to_z-of_z v ∙ ap (key_of (get_or c.args.table.now c.args.size (pos 0))) b in
     record {

@@ -3,7 +3,7 @@ use Prim.Native.Nat.{◌<◌, ◌^◌, ◌*◌, ◌%◌}
 use lib.Bits.{bit_xor}
 use lib.Count.{count_trailing_zeros}
 use native.Mathlib.Omega.{arith}
-use Rattle.window.proofs.Tops.{Seen, start, better, stays, ended}
+use Rattle.window.proofs.Tops.{start, better, stays, ended}
 use Rattle.integers.specs.Shifts.{one_shl}
 use Rattle.words.specs.Bit.{bit}
 use Rattle.words.specs.BitLaws.{flip_less}
@@ -32,8 +32,9 @@ overflow_shl-rest c = (from (goal.at.overflow_shl-rest c).Start).0
 
 pub loop-rest-init : goal.loop-rest-init
 loop-rest-init c =
-    rw (one_shl (count_trailing_zeros 64 c.args.nonempty) (from (goal.at.loop-rest-init c).Start).0)
-    (start c.args.keys.now c.args.nonempty (count_trailing_zeros 64 c.args.nonempty) c.ranges.nonempty.fits (from (goal.at.loop-rest-init c).Start).0 (from (goal.at.loop-rest-init c).Start).1 (record { sfits = c.best-1.given }))
+    let s = (goal.at.loop-rest-init c).Start in
+    rw (one_shl (count_trailing_zeros 64 c.args.nonempty) (from s).0)
+    (start c.args.keys.now c.args.nonempty (count_trailing_zeros 64 c.args.nonempty) c.ranges.nonempty.fits (from s).0 (from s).1 (record { sfits = c.best-1.given }))
 
 pub overflow_cast-s : goal.overflow_cast-s
 overflow_cast-s c = omega (arith, (next (goal.at.overflow_cast-s c).In-loop-rest).0)
@@ -58,7 +59,7 @@ loop-rest-smaller-then-best-k c = falls (goal.at.loop-rest-smaller-then-best-k c
 pub loop-rest-preserved-then-best-k : goal.loop-rest-preserved-then-best-k
 loop-rest-preserved-then-best-k c =
     rw (one_shl (count_trailing_zeros 64 c.loop-rest.rest) (next (goal.at.loop-rest-preserved-then-best-k c).In-loop-rest).0)
-    (better c.args.keys.now c.args.nonempty c.loop-rest.size c.loop-rest.best-bits c.loop-rest.rest (count_trailing_zeros 64 c.loop-rest.rest) c.loop-rest.invariant (next (goal.at.loop-rest-preserved-then-best-k c).In-loop-rest).0 (next (goal.at.loop-rest-preserved-then-best-k c).In-loop-rest).1 (record { sfits = c.k-1.given }) c.if-best-k.true)
+    (better c.args.keys.now c.args.nonempty c.loop-rest.size _ c.loop-rest.rest (count_trailing_zeros 64 c.loop-rest.rest) c.loop-rest.invariant (next (goal.at.loop-rest-preserved-then-best-k c).In-loop-rest).0 (next (goal.at.loop-rest-preserved-then-best-k c).In-loop-rest).1 (record { sfits = c.k-1.given }) c.if-best-k.true)
 
 pub loop-rest-smaller : goal.loop-rest-smaller
 loop-rest-smaller c = falls (goal.at.loop-rest-smaller c).In-loop-rest
@@ -66,8 +67,8 @@ loop-rest-smaller c = falls (goal.at.loop-rest-smaller c).In-loop-rest
 pub loop-rest-preserved : goal.loop-rest-preserved
 loop-rest-preserved c =
     rw (one_shl (count_trailing_zeros 64 c.loop-rest.rest) (next (goal.at.loop-rest-preserved c).In-loop-rest).0)
-    (stays c.args.keys.now c.args.nonempty c.loop-rest.size c.loop-rest.best-bits c.loop-rest.rest (count_trailing_zeros 64 c.loop-rest.rest) c.loop-rest.invariant (next (goal.at.loop-rest-preserved c).In-loop-rest).0 (next (goal.at.loop-rest-preserved c).In-loop-rest).1 (record { sfits = c.k-1.given }) c.if-best-k.false)
+    (stays c.args.keys.now c.args.nonempty c.loop-rest.size _ c.loop-rest.rest (count_trailing_zeros 64 c.loop-rest.rest) c.loop-rest.invariant (next (goal.at.loop-rest-preserved c).In-loop-rest).0 (next (goal.at.loop-rest-preserved c).In-loop-rest).1 (record { sfits = c.k-1.given }) c.if-best-k.false)
 
 pub returns : goal.returns
 returns c =
-    ended c.args.keys.now c.args.nonempty c.loop-rest.size c.loop-rest.best-bits c.loop-rest.rest c.loop-rest.invariant c.loop-rest-test.false
+    ended c.args.keys.now c.args.nonempty c.loop-rest.size _ c.loop-rest.rest c.loop-rest.invariant c.loop-rest-test.false

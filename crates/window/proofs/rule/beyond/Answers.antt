@@ -9,8 +9,7 @@ use lib.IntN.{ℤ, pos, negsuc, nat_abs, ◌+ℤ◌, ◌-ℤ◌, ◌*ℤ◌}
 use native.Mathlib.Omega.{arith}
 use Prim.Native.Nat.{◌-◌, ◌≤◌, ◌^◌}
 use mathlib.Core.Bool.{true, false}
-use mathlib.Core.Path.{◌≡◌, refl}
-use borrow.Author.Rules.{rules}
+use mathlib.Core.Path.{◌≡◌}
 use Rattle.window.proofs.rule.beyond.Goals as goal
 use Rattle.window.proofs.rule.beyond.Goals.{Start}
 
@@ -23,51 +22,69 @@ in_range z h l =
     let k = lt_false z (negsuc 1099511627775) l in
     let m = lt_false (pos 1099511627776) z h in
     abs_le z (2 ^ 40) (omega arith) (omega arith)
-module _ (s : tie.Start) where
-  back_6 : Back s.args.w6
-  back_6 = to_z-of_z s.ranges.w6
-  back_7 : Back s.args.w7
-  back_7 = to_z-of_z s.fits.w7
-  times : to_z w64 (s.args.size - 7) ≡ pos (s.args.size - 7)
-  times = to_z_pos w64 (omega (arith, s.pre.1))
-  rise : SFits w64 (s.args.w7 -ℤ s.args.w6)
-  rise = rise_fits s.args.w6 s.args.w7 s.args.size s.pre.0.0 s.pre.0.1 s.pre.1.1
-  line : SFits w64 ((s.args.w7 -ℤ s.args.w6) *ℤ pos (s.args.size - 7))
-  line = line_fits s.args.w6 s.args.w7 s.args.size s.pre.0.0 s.pre.0.1 s.pre.1.1
-  whole : SFits w64 ((s.args.w7 -ℤ s.args.w6) *ℤ pos (s.args.size - 7) +ℤ s.args.w7)
-  whole = sum_fits s.args.w6 s.args.w7 s.args.size s.pre.0.0 s.pre.0.1 s.pre.1.1
+
+back_6 : (c : goal.Start) → Back c.args.w6
+back_6 c = to_z-of_z c.ranges.w6
+
+back_7 : (c : goal.Start) → Back c.args.w7
+back_7 c = to_z-of_z c.ranges.w7
+
+times : (c : goal.Start) → to_z w64 (c.args.size - 7) ≡ pos (c.args.size - 7)
+times c = to_z_pos w64 (omega (arith, c.requires.le_size))
+
+rise : (c : goal.Start) → SFits w64 (c.args.w7 -ℤ c.args.w6)
+rise c = rise_fits c.args.w6 c.args.w7 c.args.size c.requires.w6_bound.0 c.requires.w6_bound.1 c.requires.le_size.1
+
+line : (c : goal.Start) → SFits w64 ((c.args.w7 -ℤ c.args.w6) *ℤ pos (c.args.size - 7))
+line c = line_fits c.args.w6 c.args.w7 c.args.size c.requires.w6_bound.0 c.requires.w6_bound.1 c.requires.le_size.1
+
+whole : (c : goal.Start) → SFits w64 ((c.args.w7 -ℤ c.args.w6) *ℤ pos (c.args.size - 7) +ℤ c.args.w7)
+whole c = sum_fits c.args.w6 c.args.w7 c.args.size c.requires.w6_bound.0 c.requires.w6_bound.1 c.requires.le_size.1
 
 pub overflow_sub-w : goal.overflow_sub-w
-overflow_sub-w c = simp (back_6 c, back_7 c) (rise c)
+overflow_sub-w c =
+    let s = (goal.at.overflow_sub-w c).Start in
+    simp (back_6 s, back_7 s) (rise s)
 
 pub overflow_mul-w : goal.overflow_mul-w
-overflow_mul-w c = simp (back_6 c, back_7 c, times c, to_z-of_z (rise c)) (line c)
+overflow_mul-w c =
+    let s = (goal.at.overflow_mul-w c).Start in
+    simp (back_6 s, back_7 s, times s, to_z-of_z (rise s)) (line s)
 
 pub overflow_add-w : goal.overflow_add-w
-overflow_add-w c = simp (back_6 c, back_7 c, times c, to_z-of_z (rise c), to_z-of_z (line c)) (whole c)
+overflow_add-w c =
+    let s = (goal.at.overflow_add-w c).Start in
+    simp (back_6 s, back_7 s, times s, to_z-of_z (rise s), to_z-of_z (line s)) (whole s)
 
 pub returns-then-w-gt1099511627776 : goal.returns-then-w-gt1099511627776
 unfolding beyond_of held
 returns-then-w-gt1099511627776 c =
+    let s = (goal.at.returns-then-w-gt1099511627776 c).Start in
     let high : lt_z (pos 1099511627776) ((c.args.w7 -ℤ c.args.w6) *ℤ pos (c.args.size - 7) +ℤ c.args.w7) ≡ true =
-    simp (back_6 (goal.at.returns-then-w-gt1099511627776 c).Start, back_7 (goal.at.returns-then-w-gt1099511627776 c).Start, times (goal.at.returns-then-w-gt1099511627776 c).Start, to_z-of_z (rise (goal.at.returns-then-w-gt1099511627776 c).Start), to_z-of_z (line (goal.at.returns-then-w-gt1099511627776 c).Start), to_z-of_z (whole (goal.at.returns-then-w-gt1099511627776 c).Start)) at c.if-w-gt1099511627776.true in
-    simp high (refl, omega arith)
+    simp (back_6 s, back_7 s, times s, to_z-of_z (rise s), to_z-of_z (line s), to_z-of_z (whole s)) at c.if-w-gt1099511627776.true in
+    record { value = simp high; result_bound = omega arith }
 
 pub returns-then-w-ltminus1099511627776 : goal.returns-then-w-ltminus1099511627776
 unfolding beyond_of held
 returns-then-w-ltminus1099511627776 c =
+    let s = (goal.at.returns-then-w-ltminus1099511627776 c).Start in
     let high : lt_z (pos 1099511627776) ((c.args.w7 -ℤ c.args.w6) *ℤ pos (c.args.size - 7) +ℤ c.args.w7) ≡ false =
-    simp (back_6 (goal.at.returns-then-w-ltminus1099511627776 c).Start, back_7 (goal.at.returns-then-w-ltminus1099511627776 c).Start, times (goal.at.returns-then-w-ltminus1099511627776 c).Start, to_z-of_z (rise (goal.at.returns-then-w-ltminus1099511627776 c).Start), to_z-of_z (line (goal.at.returns-then-w-ltminus1099511627776 c).Start), to_z-of_z (whole (goal.at.returns-then-w-ltminus1099511627776 c).Start)) at c.if-w-gt1099511627776.false in
+    simp (back_6 s, back_7 s, times s, to_z-of_z (rise s), to_z-of_z (line s), to_z-of_z (whole s)) at c.if-w-gt1099511627776.false in
     let low : lt_z ((c.args.w7 -ℤ c.args.w6) *ℤ pos (c.args.size - 7) +ℤ c.args.w7) (negsuc 1099511627775) ≡ true =
-    simp (back_6 (goal.at.returns-then-w-ltminus1099511627776 c).Start, back_7 (goal.at.returns-then-w-ltminus1099511627776 c).Start, times (goal.at.returns-then-w-ltminus1099511627776 c).Start, to_z-of_z (rise (goal.at.returns-then-w-ltminus1099511627776 c).Start), to_z-of_z (line (goal.at.returns-then-w-ltminus1099511627776 c).Start), to_z-of_z (whole (goal.at.returns-then-w-ltminus1099511627776 c).Start)) at c.if-w-ltminus1099511627776.true in
-    simp (high, low) (refl, omega arith)
+    simp (back_6 s, back_7 s, times s, to_z-of_z (rise s), to_z-of_z (line s), to_z-of_z (whole s)) at c.if-w-ltminus1099511627776.true in
+    record { value = simp (high, low); result_bound = omega arith }
 
 pub returns : goal.returns
 unfolding beyond_of held
 returns c =
+    let s = (goal.at.returns c).Start in
     let high : lt_z (pos 1099511627776) ((c.args.w7 -ℤ c.args.w6) *ℤ pos (c.args.size - 7) +ℤ c.args.w7) ≡ false =
-    simp (back_6 (goal.at.returns c).Start, back_7 (goal.at.returns c).Start, times (goal.at.returns c).Start, to_z-of_z (rise (goal.at.returns c).Start), to_z-of_z (line (goal.at.returns c).Start), to_z-of_z (whole (goal.at.returns c).Start)) at c.if-w-gt1099511627776.false in
+    simp (back_6 s, back_7 s, times s, to_z-of_z (rise s), to_z-of_z (line s), to_z-of_z (whole s)) at c.if-w-gt1099511627776.false in
     let low : lt_z ((c.args.w7 -ℤ c.args.w6) *ℤ pos (c.args.size - 7) +ℤ c.args.w7) (negsuc 1099511627775) ≡ false =
-    simp (back_6 (goal.at.returns c).Start, back_7 (goal.at.returns c).Start, times (goal.at.returns c).Start, to_z-of_z (rise (goal.at.returns c).Start), to_z-of_z (line (goal.at.returns c).Start), to_z-of_z (whole (goal.at.returns c).Start)) at c.if-w-ltminus1099511627776.false in
-    simp (back_6 (goal.at.returns c).Start, back_7 (goal.at.returns c).Start, times (goal.at.returns c).Start, to_z-of_z (rise (goal.at.returns c).Start), to_z-of_z (line (goal.at.returns c).Start), to_z-of_z (whole (goal.at.returns c).Start), high, low)
-    (refl, in_range ((c.args.w7 -ℤ c.args.w6) *ℤ pos (c.args.size - 7) +ℤ c.args.w7) high low)
+    simp (back_6 s, back_7 s, times s, to_z-of_z (rise s), to_z-of_z (line s), to_z-of_z (whole s)) at c.if-w-ltminus1099511627776.false in
+    record {
+      value = simp (back_6 s, back_7 s, times s, to_z-of_z (rise s), to_z-of_z (line s), to_z-of_z (whole s), high, low);
+      result_bound =
+          simp (back_6 s, back_7 s, times s, to_z-of_z (rise s), to_z-of_z (line s), to_z-of_z (whole s))
+          (in_range ((c.args.w7 -ℤ c.args.w6) *ℤ pos (c.args.size - 7) +ℤ c.args.w7) high low);
+    }

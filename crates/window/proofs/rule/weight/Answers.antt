@@ -10,7 +10,6 @@ use native.Mathlib.Omega.{arith}
 use Prim.Native.Nat.{ℕ, ◌-◌}
 use mathlib.Core.List.{List}
 use mathlib.Core.Path.{◌≡◌, sym, ◌∙◌}
-use borrow.Author.Rules.{rules}
 use Rattle.window.proofs.rule.weight.Goals as goal
 use Rattle.window.proofs.rule.weight.Goals.{Start}
 
@@ -20,17 +19,24 @@ entry ws k h = to_z-of_z (small_fits (get_or ws k (pos 0)) (omega (arith, h.with
 
 pub returns-then-size-le7 : goal.returns-then-size-le7
 returns-then-size-le7 c =
-    rw (entry c.args.t1 (c.args.size - 1) c.requires.within)
-    (sym (entry_weight c.args.t1 c.args.size c.if-size-le7.true), omega (arith, c.requires.within.within (c.args.size - 1)))
+    record {
+      value = rw (entry c.args.weights (c.args.size - 1) c.requires.within) (sym (entry_weight c.args.weights c.args.size c.if-size-le7.true));
+      result_bound = rw (entry c.args.weights (c.args.size - 1) c.requires.within) (omega (arith, c.requires.within.within (c.args.size - 1)));
+    }
 
 pub beyond-requires : goal.beyond-requires
 beyond-requires c =
-    simp (entry c.args.t1 5 c.requires.within, entry c.args.t1 6 c.requires.within)
-    ((c.requires.within.within 5, c.requires.within.within 6), (omega (arith, c.if-size-le7.false), c.requires.le_size.1))
+    record {
+      w6_bound = simp (entry c.args.weights 5 c.requires.within, entry c.args.weights 6 c.requires.within) (c.requires.within.within 5, c.requires.within.within 6);
+      le_size = (omega (arith, c.if-size-le7.false), c.requires.le_size.1);
+    }
 
 pub returns : goal.returns
 returns c =
-    let e : c.beyond.result ≡ beyond_of (get_or c.args.t1 5 (pos 0)) (get_or c.args.t1 6 (pos 0)) c.args.size =
-    simp (entry c.args.t1 5 c.requires.within, entry c.args.t1 6 c.requires.within) at c.beyond.ensures.value in
-    rw (to_z-of_z (small_fits c.beyond.result (omega (arith, c.beyond.ensures.result_bound))))
-    (e ∙ sym (beyond_weight c.args.t1 c.args.size (omega (arith, c.if-size-le7.false))), c.beyond.ensures.result_bound)
+    let e : c.beyond.result ≡ beyond_of (get_or c.args.weights 5 (pos 0)) (get_or c.args.weights 6 (pos 0)) c.args.size =
+    simp (entry c.args.weights 5 c.requires.within, entry c.args.weights 6 c.requires.within) at c.beyond.ensures.value in
+    let back = to_z-of_z (small_fits c.beyond.result (omega (arith, c.beyond.ensures.result_bound))) in
+    record {
+      value = rw back (e ∙ sym (beyond_weight c.args.weights c.args.size (omega (arith, c.if-size-le7.false))));
+      result_bound = rw back c.beyond.ensures.result_bound;
+    }

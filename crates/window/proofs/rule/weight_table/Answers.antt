@@ -3,22 +3,16 @@ use Rattle.words.specs.Cases.{same_or_not}
 use Rattle.integers.specs.Ints.{small_fits}
 use mir.Facts.{to_z-of_z}
 use lib.Seq.{get_or-set_same, get_or-set_other}
-use lib.ListN.{length, get_or, set, length-set}
+use lib.ListN.{set, length-set}
 use lib.IntN.{ℤ, pos}
-use borrow.Author.Rules.{rules}
 use native.Mathlib.Omega.{arith}
-use Prim.Native.Nat.{ℕ, ◌+◌, ◌-◌, ◌≤◌, ◌<◌}
+use Prim.Native.Nat.{ℕ, ◌+◌, ◌<◌}
 use mathlib.Core.Logic.{⊎_elim}
 use mathlib.Core.List.{List}
 use mathlib.Core.Path.{◌≡◌, refl, ◌∙◌}
+use Rattle.window.proofs.rule.weight_table.Invariants.{Filled}
 use Rattle.window.proofs.rule.weight_table.Goals as goal
 
--- the entries from 1 on and below k are there
-record Filled (ws t : List ℤ) (k : ℕ) : Type 0 where
-  from : 1 ≤ k
-  to : k ≤ 64
-  long : length t ≡ 64
-  entry : (j : ℕ) → 1 ≤ j → j < k → get_or t j (pos 0) ≡ weight ws j
 one_more : (ws t : List ℤ) (k : ℕ) (z : ℤ) → Filled ws t k → k < 64 → z ≡ weight ws k → Filled ws (set t k z) (k + 1)
 one_more ws t k z h l e =
     record {
