@@ -1,6 +1,7 @@
 // Compares the tables of logarithms with the Rust's own: reads what `oracle table N` writes for an N up to 131,072, and
 // says how many entries differ. The file `stdin` is such a table of 2,048 entries.
 #![tactic(auto)]
+
 use comparing::{Tally, held, number};
 use log_table::making::make_logs;
 use rules::Checked;
