@@ -82,7 +82,7 @@ returns-in-At c =
     let h : k < length (R.ranges i.settings m) = omega (arith, span_count i c.args.g refl n m e, c.loop-k-test.true) in
     let at = span_is i c.args.g refl n m e k _ _ c.range_at-span.ensures in
     let f = c.run_range-ended.ensures i _ (next_range m k here h _ _ at) in
-    ran_at m k h at f c.ended-1.given.1 c.args.how refl refl
+    ran_at m k h at f c.in-At.is c.args.how refl refl
 
 pub overflow_add-k : goal.overflow_add-k
 overflow_add-k c = omega (arith, c.loop-k-test.true, c.chunk_count-chunks.ensures.2)
@@ -100,7 +100,7 @@ loop-k-preserved c = (
       let h : k < length (R.ranges i.settings m) = omega (arith, span_count i c.args.g same n m e, c.loop-k-test.true) in
       let at = span_is i c.args.g same n m e k _ _ c.range_at-span.ensures in
       let next = next_range m k here h _ _ at in
-      rests_more m k h at next (c.run_range-ended.ensures i _ next) c.enum_told-1.given.1 c.run_range-ended.auto.work,
+      rests_more m k h at next (c.run_range-ended.ensures i _ next) c.in_default.is c.run_range-ended.auto.work,
   omega (arith, c.loop-k-test.true),
   c.run_range-ended.auto.seeds ∙ c.loop-k.invariant.2,
   c.run_range-ended.auto.bitmap ∙ c.loop-k.invariant.3,
