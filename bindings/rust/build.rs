@@ -3,17 +3,13 @@
 use std::path::{Path, PathBuf};
 use std::{env, process};
 
-/// The folder that PHASTR_LIB names, else where tools/library puts the library of this machine.
+/// The folder that PHASTR_LIB names, else where tools/library puts the library.
 fn folder() -> PathBuf {
     println!("cargo:rerun-if-env-changed=PHASTR_LIB");
     if let Some(named) = env::var_os("PHASTR_LIB") {
         return PathBuf::from(named);
     }
-    let made = match env::var("CARGO_CFG_TARGET_ARCH").as_deref() {
-        Ok("x86_64") => "staticlib",
-        _ => "native",
-    };
-    Path::new(&env::var_os("CARGO_MANIFEST_DIR").unwrap()).join("../../target").join(made)
+    Path::new(&env::var_os("CARGO_MANIFEST_DIR").unwrap()).join("../../target/staticlib")
 }
 
 fn main() {

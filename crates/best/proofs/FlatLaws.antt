@@ -16,7 +16,6 @@ use lib.Pow as Pow
 use Rattle.words.specs.Cases.{lt_or_ge}
 use Rattle.words.specs.BitLaws.{bit_pow_same, bit_pow_other}
 use Rattle.words.specs.CountLaws.{tz_unique}
-use Rattle.words.specs.Map.{slot}
 use Rattle.words.specs.MapLaws.{slot_part}
 use Rattle.integers.specs.Shifts.{one_shl, mask_is, pow_le_cancel}
 use Rattle.rules.proofs.Tests.{split}

@@ -4,7 +4,7 @@
 use mathlib.Core.Path.{◌≡◌, sym, ap, ◌∙◌, subst}
 use mathlib.Core.Logic.{◌≢◌, ⊎_elim}
 use mathlib.Core.List.{List}
-use Prim.Native.Nat.{ℕ, zero, suc, ◌+◌, ◌-◌, ◌*◌, ◌/◌, ◌%◌, ◌^◌, ◌≤◌, ◌<◌}
+use Prim.Native.Nat.{ℕ, zero, suc, ◌+◌, ◌-◌, ◌*◌, ◌/◌, ◌^◌, ◌≤◌, ◌<◌}
 use native.Mathlib.Omega.{arith}
 use lib.Bits.{bit_and}
 use lib.Count.{count_trailing_zeros, trailing_le}
@@ -15,7 +15,6 @@ use Rattle.words.specs.BitLaws.{bit_of_zero}
 use Rattle.words.specs.Cases.{lt_or_ge, same_or_not}
 use Rattle.words.specs.CountLaws.{tz_below, tz_bit, tz_lt, clear_other, clear_lt}
 use Rattle.words.specs.Map.{Words, slot, tally}
-use Rattle.words.specs.MapLaws.{slot_lt}
 use Rattle.words.specs.TallyLaws.{tally_zero, tally_suc}
 use Rattle.best.specs.declared.Best.{Best}
 use Rattle.best.specs.Best.{nothing, better, best_from}
@@ -23,7 +22,7 @@ use Rattle.best.specs.BestLaws.{from_none, from_pass, from_skip}
 use Rattle.best.specs.Prices.{is_free}
 use Rattle.best.specs.PriceLaws.{free_one, free_zero}
 use Rattle.best.specs.Walk.{slot_of, lowest_up}
-use Rattle.best.specs.Listed.{some, none, some_to, place, Entry, Listed}
+use Rattle.best.specs.Listed.{none, some_to, place, Entry, Listed}
 use Rattle.best.proofs.ListLaws.{some_one, none_one, none_zero, none_before, some_more, some_few, place_later, place_same, entry_kept, First, first_some}
 
 -- ---- the count over a stretch

@@ -1,5 +1,5 @@
 -- Layout after layout: what holds of all keys and free words holds of a layout's part, and the loop of `best_many`. Assumes nothing.
-use Rattle.std.specs.Prelude.{◌≡◌, ◌≢◌, not, List, ℕ, suc, ◌+◌, ◌-◌, ◌*◌, ◌^◌, ◌≤◌, ◌<◌, T, length, get_or, take, drop}
+use Rattle.std.specs.Prelude.{◌≡◌, ◌≢◌, not, List, ℕ, suc, ◌+◌, ◌-◌, ◌*◌, ◌^◌, ◌≤◌, ◌<◌, T, length, get_or, drop}
 use Rattle.std.proofs.Math.Path.{refl}
 use Rattle.std.proofs.Common.{sym, ap, ◌∙◌, arith, mul-le-mul_right, add-one, length-take, length-drop, ext_get_or}
 use Rattle.std.proofs.Math.Arith.{digits_lt}

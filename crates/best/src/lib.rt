@@ -1,5 +1,6 @@
 // The best free rotation of a bucket: the least by cost, then layout, then rotation.
 #![tactic(auto)]
+
 pub mod all;
 pub mod listed;
 pub mod many;

@@ -1,6 +1,6 @@
 -- The parts that `geometry_of` computes make the geometry of the settings: Q's upper half is ns / B, and its lower half the fraction that is left.
 -- Assumes nothing.
-use Rattle.std.proofs.Common.{◌≡◌, ℕ, ◌+◌, ◌-◌, ◌*◌, ◌/◌, ◌%◌, ◌^◌, ◌<◌, min, sym, refl, ap, ◌∙◌, mod-lt, mod-eq_of_lt, arith, pow_pos}
+use Rattle.std.proofs.Common.{◌≡◌, ℕ, ◌+◌, ◌-◌, ◌*◌, ◌/◌, ◌%◌, ◌^◌, ◌<◌, min, sym, ap, ◌∙◌, mod-lt, pow_pos}
 use lib.Arith.{digits_div, digits_mod}
 use Rattle.rules.specs.declared.Settings.{Settings}
 use Rattle.rules.specs.Geometry as G

@@ -1,11 +1,11 @@
 -- Rounding a small float half up. Assumes nothing.
-use Rattle.std.proofs.Common.{◌≡◌, ℕ, zero, suc, ◌+◌, ◌-◌, ◌*◌, ◌/◌, ◌%◌, ◌^◌, ◌<◌, ◌≤◌, min, Bool, true, false, T, ltb, ℤ, pos, negsuc, sym, refl, ap, ◌∙◌, subst, true≢false, le_trans, le_of_eq, lt_of_lt_of_le, lt_of_le_of_lt, mul-le-mul_right, mod-lt, mul_assoc, mul_comm, lt_of_mul-lt-mul_right, mul-lt-mul_of_pos_right, mul-pos, div-add-mod', mul_right_comm, le_of_mul-le-mul_right, arith, lit<, lit≤, le→leb, lt→ltb, pow_pos, pow_mono, pow-add, shl_lt, ltb-false, ltb-true}
+use Rattle.std.proofs.Common.{◌≡◌, ℕ, ◌+◌, ◌-◌, ◌*◌, ◌/◌, ◌%◌, ◌^◌, ◌<◌, ◌≤◌, min, Bool, true, false, T, pos, negsuc, sym, refl, ap, ◌∙◌, subst, true≢false, le_trans, lt_of_lt_of_le, mul-le-mul_right, mod-lt, lt_of_mul-lt-mul_right, mul-lt-mul_of_pos_right, mul-pos, div-add-mod', mul_right_comm, le_of_mul-le-mul_right, arith, lit<, lit≤, lt→ltb, pow_mono, shl_lt, ltb-false, ltb-true}
 use native.Mathlib.Nat.{eq_of_mul-eq-mul_right, div-eq_of_lt-le, div-le_of_le-mul}
-use lib.Ieee.{Float, nan, inf, fin, binary64, up, down, round, add, sum, of_int, of_bits, lt, to_unsigned, in_float}
+use lib.Ieee.{Float, nan, inf, fin, binary64, up, down, round, add, sum, of_int, of_bits, lt, to_unsigned}
 use lib.Ieee.Fits.{down_pos}
 use lib.Ieee.Exact.{HasValue, round_exact}
 use lib.Ieee.Back.{round_whole}
-use lib.Ieee.Positive.{num, den, den_pos, value→cross}
+use lib.Ieee.Positive.{num, den, den_pos}
 use Rattle.rules.specs.BucketCount.{half_up}
 use Rattle.geometry.specs.Small.{Small}
 

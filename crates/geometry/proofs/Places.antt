@@ -1,5 +1,5 @@
 -- What the code of positions leans on: a bucket's first slice by the halves of Q, a layout's shift, and two masks in place of one remainder. Assumes nothing.
-use Rattle.std.proofs.Common.{◌≡◌, ℕ, ◌+◌, ◌-◌, ◌*◌, ◌/◌, ◌%◌, ◌^◌, ◌<◌, ◌≤◌, sym, refl, ap, ◌∙◌, subst, le_trans, lt_of_lt_of_le, mul-le-mul_right, mod-lt, mod-eq_of_lt, mul_assoc, mul-lt-mul_of_pos_right, div-add-mod', le-div_iff_mul-le, mul-add, arith, pow_pos, pow_mono, shl_lt}
+use Rattle.std.proofs.Common.{◌≡◌, ℕ, ◌+◌, ◌-◌, ◌*◌, ◌/◌, ◌%◌, ◌^◌, ◌<◌, ◌≤◌, sym, ap, ◌∙◌, subst, le_trans, lt_of_lt_of_le, mul-le-mul_right, mod-eq_of_lt, mul_assoc, mul-lt-mul_of_pos_right, div-add-mod', le-div_iff_mul-le, mul-add, arith, pow_pos, pow_mono, shl_lt}
 use native.Mathlib.Nat.{mul-div-le, mod-add-mod, mul-add-div_right, div-le_of_le-mul}
 use lib.Bits.{bit_and, and_mask}
 use Rattle.rules.specs.declared.Settings.{Settings}

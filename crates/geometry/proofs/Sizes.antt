@@ -1,10 +1,10 @@
 -- What a geometry's fields are and how large. Assumes nothing.
-use Rattle.std.proofs.Common.{◌≡◌, ℕ, ◌+◌, ◌-◌, ◌*◌, ◌/◌, ◌%◌, ◌^◌, ◌<◌, ◌≤◌, max, sym, refl, ap, ◌∙◌, subst, le_trans, lt_of_le_of_lt, div-le_self, arith, pow_pos, pow_mono}
+use Rattle.std.proofs.Common.{◌≡◌, ◌+◌, ◌-◌, ◌*◌, ◌/◌, ◌%◌, ◌^◌, ◌<◌, ◌≤◌, sym, refl, subst, le_trans, lt_of_le_of_lt, div-le_self, arith, pow_pos, pow_mono}
 use Rattle.integers.specs.PowerLaws.{least_power_tight}
 use Rattle.rules.specs.declared.Settings.{Settings}
 use Rattle.rules.specs.Geometry as G
 use Rattle.rules.specs.Good.{Usable}
-use Rattle.rules.proofs.GeometryLaws.{len_pow, len_pos, len_high, log_len_le, slices_pos, slices_le, slices_len, layouts_pos, stride_le, stride_high, ring_pos, ring_len_lem}
+use Rattle.rules.proofs.GeometryLaws.{len_pow, len_pos, len_high, log_len_le, slices_pos, slices_le, slices_len, stride_high, ring_pos}
 use Rattle.geometry.specs.declared.shape.Geometry.{Geometry}
 use Rattle.geometry.specs.Shape.{geometry_of, Made}
 

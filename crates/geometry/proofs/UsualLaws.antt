@@ -1,6 +1,6 @@
 -- The default shape's numbers. Why: the length of a slice, log2 of the layouts and the bits of a seed give scale, stride, ring length and
 -- rotations by rule G, and rule G computes; of 1,024 slots and more a slice has 1,024. Assumes nothing.
-use Rattle.std.proofs.Common.{◌≡◌, ℕ, ◌+◌, ◌-◌, ◌/◌, ◌≤◌, Bool, ◌&&◌, T, eqb, leb, sym, refl, ap, ◌∙◌, arith, eqb→eq, leb→le}
+use Rattle.std.proofs.Common.{◌≡◌, ℕ, ◌+◌, ◌-◌, ◌/◌, ◌≤◌, ◌&&◌, T, eqb, leb, sym, refl, ap, ◌∙◌, arith, eqb→eq, leb→le}
 use Rattle.integers.specs.Power.{log_up, least_power, least_from}
 use Rattle.integers.specs.PowerLaws.{least_power_mono}
 use Rattle.rules.specs.declared.Settings.{Settings}

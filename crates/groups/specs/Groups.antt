@@ -1,5 +1,5 @@
 -- Begins as the code reads it, one bucket at a time. Assumes nothing.
-use Rattle.std.specs.Prelude.{◌≡◌, List, ℕ, ◌+◌, ◌-◌, ◌<◌, ◌≤◌, length, get_or}
+use Rattle.std.specs.Prelude.{List, ℕ, ◌+◌, ◌-◌, ◌<◌, ◌≤◌, length, get_or}
 
 -- where bucket b's keys begin
 abbrev pub begin_of : (begins : List ℕ) → (b : ℕ) → ℕ

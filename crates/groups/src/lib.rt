@@ -1,5 +1,6 @@
 // The groups: bucket b's keys are the hashes from begins[b] up to begins[b + 1].
 #![tactic(auto)]
+
 ghost use Rattle.std.specs.Prelude.{◌≡◌, ◌+◌, ◌-◌, ◌*◌, ◌^◌, ◌<◌, ◌≤◌, length, get_or, take, drop};
 ghost use Rattle.groups.specs.Groups.{begin_of, size_in, Grouped};
 

@@ -1,8 +1,8 @@
 -- What the bitmap holds from slot m on makes no difference: two bitmaps of one length that agree below m have the same holes, the same answer and
 -- the same buffer. A hole is an unmarked slot below m, so no test of a later slot is in any of the definitions.
 -- Assumes nothing.
-use mathlib.Core.Path.{◌≡◌, refl, sym, ap, ap₂, ◌∙◌}
-use mathlib.Core.List.{List, ◌++◌}
+use mathlib.Core.Path.{◌≡◌, refl, ap, ap₂}
+use mathlib.Core.List.{List}
 use mathlib.Core.Bool.{Bool, not}
 use Prim.Native.Nat.{ℕ, zero, suc, ◌+◌, ◌≤◌, ◌<◌}
 use native.Mathlib.Omega.{arith}

@@ -1,5 +1,6 @@
 // The holes of a bitmap: the unmarked slots below m, ascending (rule H).
 #![tactic(auto)]
+
 ghost use Rattle.std.specs.Prelude.{◌≡◌, ◌++◌, ◌+◌, ◌*◌, ◌/◌, ◌<◌, ◌≤◌, leb, length, drop};
 ghost use Rattle.rules.specs.Holes.{holes_of};
 ghost use Rattle.rules.specs.Numbers.{bitmap_words};

@@ -1,7 +1,5 @@
 -- What reading and writing say fixes their answers: each `said..` can be undone, so two answers that say the same are the same. Assumes nothing.
 use mathlib.Core.Path.{◌≡◌, refl, sym, ap, ◌∙◌}
-use mathlib.Core.List.{List, [], ◌∷◌}
-use Prim.Native.Nat.{ℕ}
 use lib.ListN.{get_or}
 use Rattle.rules.specs.Answers.{Said, Answer, Refusal}
 use Rattle.level_file.specs.declared.reading.FileRead.{FileRead}

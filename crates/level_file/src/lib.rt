@@ -1,5 +1,6 @@
 // Level files: a finished level without its hashes, in house numbers.
 #![tactic(auto)]
+
 mod clearing;
 mod reading;
 mod writing;

@@ -2,7 +2,7 @@
 -- Why: the cell of row i and place τ of column c is slot 64 c 2^t + i 2^t + τ, at bit i of the column's word τ. A slot of another column that had its place
 -- in these words would be a slot of column c, since within the ring's length no two slots share a place.
 -- Assumes nothing.
-use Rattle.std.specs.Prelude.{◌≡◌, refl, ◌⊎◌, true, List, length, get_or, set, drop}
+use Rattle.std.specs.Prelude.{◌≡◌, refl, true, List, length, get_or, set, drop}
 use Rattle.std.proofs.Common.{sym, ◌∙◌, mul-le-mul_right, length-set, length-drop, pow_pos, pow_mono, get_or-set_same, get_or-set_other, get_or-drop, ext_get_or, eqb-true, ne_eqb, eq-eqb}
 use Rattle.std.proofs.Math.Path.{ap, ap₂}
 use Rattle.std.proofs.Math.Logic.{⊎_elim}

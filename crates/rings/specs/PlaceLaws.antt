@@ -2,7 +2,7 @@
 -- Why: marks that found their slots free are taken back from the last to the first, each to the list that it was made in. Within one length of the ring
 -- every key finds its slot free exactly if the slots were free and no two are one.
 -- Assumes nothing.
-use Rattle.std.specs.Prelude.{◌≡◌, refl, ◌≢◌, ◌⊎◌, Bool, true, false, List, ℕ, zero, suc, ◌+◌, ◌-◌, ◌≤◌, ◌<◌, length, get_or, drop}
+use Rattle.std.specs.Prelude.{◌≡◌, refl, ◌≢◌, Bool, true, false, List, ℕ, zero, suc, ◌+◌, ◌-◌, ◌≤◌, ◌<◌, length, get_or, drop}
 use Rattle.std.proofs.Common.{sym, ap, ◌∙◌, ⊎_elim, arith, add-one, get_or-drop}
 use Rattle.words.specs.Cases.{lt_or_ge, same_or_not}
 use Rattle.words.specs.Map.{Words, marked}

@@ -1,5 +1,6 @@
 // The used ring: a cyclic set of words that has the used bits of a stretch of slots, laid out so that the slots 2^t apart which a key can take are bits in a row.
 #![tactic(auto)]
+
 pub mod columns;
 pub mod free;
 pub mod keys;

@@ -1,7 +1,7 @@
 -- What a call says fixes its answer: each `said..` can be undone, so two answers that say the same are the same. Assumes nothing.
 use mathlib.Core.Path.{◌≡◌, refl, sym, ap, ◌∙◌}
 use mathlib.Core.List.{List, [], ◌∷◌}
-use Prim.Native.Nat.{ℕ, zero}
+use Prim.Native.Nat.{ℕ}
 use lib.ListN.{get_or}
 use Rattle.rules.specs.declared.Named.{Named}
 use Rattle.rules.specs.declared.Named.TheVariants.{Bucket, NoBucket}

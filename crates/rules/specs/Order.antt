@@ -1,5 +1,5 @@
 -- The groups of keys, and rule W: whose turn it is. Assumes nothing.
-use Rattle.std.specs.Prelude.{ℕ, zero, suc, ◌+◌, ◌-◌, ◌*◌, ◌^◌, ◌%◌, Bool, true, false, cond, List, [], ◌∷◌, ltb, leb, ℤ, ◌+ℤ◌, ◌-ℤ◌, ◌*ℤ◌, get_or, length, take, drop}
+use Rattle.std.specs.Prelude.{ℕ, zero, suc, ◌+◌, ◌-◌, ◌*◌, ◌^◌, ◌%◌, Bool, cond, List, [], ◌∷◌, ltb, leb, ℤ, ◌+ℤ◌, ◌-ℤ◌, ◌*ℤ◌, get_or, length, take, drop}
 use Rattle.std.proofs.Math.IntN as Int
 use Rattle.integers.specs.Ints.{held}
 use Rattle.rules.specs.declared.Settings.{Settings}

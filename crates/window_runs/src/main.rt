@@ -1,4 +1,5 @@
 #![tactic(auto)]
+
 ghost use Rattle.std.specs.Prelude.{◌≤◌, ◌<◌};
 
 // Runs made-up sizes and weights through the window and writes the order in which it takes the buckets, one line a case.

@@ -1,5 +1,6 @@
 // Bits of 64-bit words, and a slice of words as a map of slots: slot p is bit p % 64 of word p / 64.
 #![tactic(auto)]
+
 ghost use Rattle.std.specs.Prelude.{◌≡◌, ℕ, ◌*◌, ◌<◌, ◌≤◌, length, eqb};
 ghost use Rattle.words.specs.Map.{slot, marked, cleared};
 ghost use Rattle.words.specs.Next.{next_set};

@@ -1,11 +1,9 @@
 -- How many holes there are. The total so far and the holes from word w on make all of them, and one turn moves a free word's ones across.
 use Prim.Native.Nat.{◌≤◌, ◌+◌, ◌-◌}
-use mathlib.Core.Path.{◌≡◌, ap}
-use native.Mathlib.Omega.{arith}
+use mathlib.Core.Path.{◌≡◌}
 use lib.ListN.{length}
-use lib.Count.{ones, ones-le}
 use Rattle.rules.specs.Holes.{holes_of}
-use Rattle.holes.proofs.Walk.{rest_from, rest_all, rest_none, holes_length, count_step}
+use Rattle.holes.proofs.Walk.{rest_from}
 use Rattle.holes.proofs.count_holes.Given as goal
 
 abbrev pub invariant-loop-w : goal.invariant-loop-w

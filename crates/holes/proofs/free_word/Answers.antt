@@ -3,7 +3,6 @@ use Prim.Native.Nat.{◌-◌, ◌*◌}
 use native.Mathlib.Omega.{arith}
 use Rattle.words.specs.ShiftLaws.{one_shl_pos}
 use Rattle.holes.proofs.Walk.{free_part, free_whole}
-use borrow.Author.Rules.{rules}
 use Rattle.holes.proofs.free_word.Goals as goal
 
 pub overflow_sub-result : goal.overflow_sub-result

@@ -4,7 +4,6 @@ use Prim.Native.Nat.{◌≤◌, ◌<◌}
 use mathlib.Core.Path.{sym, ◌∙◌}
 use native.Mathlib.Omega.{arith}
 use lib.ListN.{length}
-use borrow.Author.Rules.{rules}
 use borrow.Author.Tests.{leb-true, leb-false, not-true, not-false}
 use Rattle.rules.specs.Holes.{holes_of}
 use Rattle.holes.proofs.holes.Goals as goal

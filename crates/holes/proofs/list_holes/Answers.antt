@@ -1,10 +1,8 @@
 -- The holes at the front of the buffer. Both loops keep that what is written and what is left make the whole list: the outer one leaves the
 -- holes from word w on, the inner one the set bits of what remains of a free word before those of the next words.
-use Prim.Native.Nat.{◌≤◌, ◌<◌, ◌+◌, ◌-◌, ◌*◌, ◌^◌}
-use mathlib.Core.Path.{◌≡◌}
+use Prim.Native.Nat.{◌+◌, ◌-◌, ◌*◌}
 use mathlib.Core.List.{◌∷◌, ◌++◌}
 use native.Mathlib.Omega.{arith}
-use lib.ListN.{length}
 use lib.Bits.{bit_and, and_le_r}
 use lib.Count.{count_trailing_zeros, trailing_le}
 use Rattle.rules.specs.Holes.{holes_of}

@@ -2,15 +2,12 @@
 -- holes from word w on, the inner one the set bits of what remains of a free word before those of the next words.
 use Prim.Native.Nat.{◌≤◌, ◌<◌, ◌+◌, ◌-◌, ◌*◌, ◌^◌}
 use mathlib.Core.Path.{◌≡◌}
-use mathlib.Core.List.{◌∷◌, ◌++◌}
-use native.Mathlib.Omega.{arith}
+use mathlib.Core.List.{◌++◌}
 use lib.ListN.{length}
-use lib.Bits.{bit_and, and_le_r}
-use lib.Count.{count_trailing_zeros, trailing_le}
 use Rattle.rules.specs.Holes.{holes_of}
 use Rattle.holes.proofs.SetBits.{set_slots}
-use Rattle.holes.proofs.Walk.{rest_from, rest_all, rest_none, rest_step}
-use Rattle.holes.proofs.Filling.{Filling, fill_start, fill_restart, fill_all, fill_end, fill_room, fill_put, fill_chain, fill_slots, fill_word}
+use Rattle.holes.proofs.Walk.{rest_from}
+use Rattle.holes.proofs.Filling.{Filling}
 use Rattle.holes.proofs.list_holes.Given as goal
 
 abbrev pub invariant-loop-free : goal.invariant-loop-free

@@ -7,7 +7,6 @@ use lib.ListN.{length}
 use lib.Seq.{length-take-le}
 use Rattle.sorting.proofs.Lent.{answer, beyond, long}
 use Rattle.sorting.proofs.has_equal.Goals as goal
-use Rattle.sorting.proofs.has_equal.Goals.{After-sort_into-arg-1, Start}
 
 pub slice_bounds-sort_into-end-2 : goal.slice_bounds-sort_into-end-2
 slice_bounds-sort_into-end-2 c = sym (length-take-le _ _ (omega arith))

@@ -1,6 +1,4 @@
 use Prim.Native.Nat.{◌-◌, ◌≤◌}
-use native.Mathlib.Omega.{arith}
-use borrow.Author.Rules.{rules}
 use Rattle.window_runs.proofs.main.Given as goal
 
 abbrev pub invariant-loop-kind : goal.invariant-loop-kind

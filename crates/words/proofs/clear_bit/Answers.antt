@@ -4,7 +4,6 @@ use Prim.Native.Nat.{◌/◌, ◌%◌}
 use native.Mathlib.Omega.{arith}
 use Rattle.words.specs.Map.{cleared}
 use Rattle.words.specs.MapLaws.{clear_code}
-use borrow.Author.Rules.{rules}
 use Rattle.words.proofs.clear_bit.Goals as goal
 
 pub returns : goal.returns

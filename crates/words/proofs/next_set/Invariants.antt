@@ -1,10 +1,7 @@
 -- `next_set` scans word by word (`Scan`): each return gives the answer that the words passed allow. The measure is the number of words left.
 -- Assumes nothing.
-use mathlib.Core.Path.{sym}
 use Prim.Native.Nat.{◌-◌}
-use native.Mathlib.Omega.{arith}
-use Rattle.words.specs.NextLaws.{next_none}
-use Rattle.words.proofs.Scan.{Scan, scan_start_lem, scan_step, scan_none, scan_tz, scan_from, scan_at, scan_past}
+use Rattle.words.proofs.Scan.{Scan}
 use Rattle.words.proofs.next_set.Given as goal
 
 abbrev pub invariant-loop-word : goal.invariant-loop-word

@@ -4,7 +4,6 @@ use Prim.Native.Nat.{◌/◌, ◌%◌}
 use native.Mathlib.Omega.{arith}
 use Rattle.words.specs.Map.{marked}
 use Rattle.words.specs.MapLaws.{mark_code}
-use borrow.Author.Rules.{rules}
 use Rattle.words.proofs.set_bit.Goals as goal
 
 pub returns : goal.returns

@@ -2,9 +2,7 @@
 use native.Mathlib.Omega.{arith}
 use Rattle.best.specs.Kept.{kept_on}
 use Rattle.best.proofs.AllLaws.{shift_few, pass_of, best_of_lem}
-use borrow.Author.Rules.{rules}
 use Rattle.best.proofs.all.best_all.Goals as goal
-use Rattle.best.proofs.all.best_all.Goals.{Start}
 
 pub overflow_cast-shift : goal.overflow_cast-shift
 overflow_cast-shift c = omega (arith, shift_few c.requires)

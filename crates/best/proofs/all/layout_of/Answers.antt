@@ -1,6 +1,5 @@
 -- Layout and rotation of the number are its quotient and its remainder. Assumes nothing.
 use Rattle.best.proofs.FlatLaws.{layout_code}
-use borrow.Author.Rules.{rules}
 use Rattle.best.proofs.all.layout_of.Goals as goal
 
 pub returns : goal.returns

@@ -1,7 +1,5 @@
 -- The loop is a `Passing`: one free number a step, and the count of those left tells the end. The measure is that count. Assumes nothing.
-use native.Mathlib.Omega.{arith}
-use Rattle.best.proofs.Passing.{Passing, pass_start, pass_end, pass_some, pass_in, pass_low, pass_lt, pass_row, pass_prices, pass_on}
-use borrow.Author.Rules.{rules}
+use Rattle.best.proofs.Passing.{Passing}
 use Rattle.best.proofs.listed.best_listed.Given as goal
 
 abbrev pub invariant-loop-left : goal.invariant-loop-left

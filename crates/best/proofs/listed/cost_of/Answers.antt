@@ -2,9 +2,7 @@
 use mathlib.Core.Path.{◌∙◌}
 use Rattle.rings.specs.Parts.{part_range}
 use Rattle.best.proofs.FlatLaws.{cost_code}
-use borrow.Author.Rules.{rules}
 use Rattle.best.proofs.listed.cost_of.Goals as goal
-use Rattle.best.proofs.listed.cost_of.Goals.{Start}
 
 pub cost-requires : goal.cost-requires
 cost-requires c =

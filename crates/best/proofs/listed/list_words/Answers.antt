@@ -1,11 +1,8 @@
 -- The words passed are listed (`ListedTo`). The measure is the number of words left. Assumes nothing.
-use Prim.Native.Nat.{◌-◌}
 use native.Mathlib.Omega.{arith}
 use lib.ListN.{length-set}
-use Rattle.best.proofs.ListLaws.{ListedTo, to_none, to_room, to_more, to_end}
-use borrow.Author.Rules.{rules}
+use Rattle.best.proofs.ListLaws.{to_none, to_room, to_more, to_end}
 use Rattle.best.proofs.listed.list_words.Goals as goal
-use Rattle.best.proofs.listed.list_words.Goals.{Start}
 
 pub loop-i-init : goal.loop-i-init
 loop-i-init c = to_none _ _ _ _

@@ -1,9 +1,6 @@
 -- The words passed are listed (`ListedTo`). The measure is the number of words left. Assumes nothing.
 use Prim.Native.Nat.{◌-◌}
-use native.Mathlib.Omega.{arith}
-use lib.ListN.{length-set}
-use Rattle.best.proofs.ListLaws.{ListedTo, to_none, to_room, to_more, to_end}
-use borrow.Author.Rules.{rules}
+use Rattle.best.proofs.ListLaws.{ListedTo}
 use Rattle.best.proofs.listed.list_words.Given as goal
 
 abbrev pub invariant-loop-i : goal.invariant-loop-i

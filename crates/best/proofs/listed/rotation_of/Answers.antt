@@ -1,7 +1,5 @@
 -- The mask of 2^shift - 1 is the remainder by 2^shift. Assumes nothing.
-use native.Mathlib.Omega.{arith}
 use Rattle.best.proofs.FlatLaws.{shl_pos, low_code, low_small}
-use borrow.Author.Rules.{rules}
 use Rattle.best.proofs.listed.rotation_of.Goals as goal
 
 pub overflow_sub-result : goal.overflow_sub-result

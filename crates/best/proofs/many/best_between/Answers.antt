@@ -1,10 +1,8 @@
 -- The keys and free words lie below the wrap points, so filling those leaves them. Assumes nothing.
 use native.Mathlib.Omega.{arith}
-use borrow.Author.Rules.{rules}
 use Rattle.best.specs.Kept.{kept_range}
 use Rattle.best.specs.WrapLaws.{free_room, wraps_room, points_here}
 use Rattle.best.proofs.many.best_between.Goals as goal
-use Rattle.best.proofs.many.best_between.Goals.{Start}
 
 pub best_segments-requires : goal.best_segments-requires
 best_segments-requires c =

@@ -1,14 +1,11 @@
 -- The best so far is that of the layouts below r (`Trying`), and what is below `up` is kept, so each layout's parts are still those of the list at entry.
 -- The measure is the number of layouts left. Assumes nothing.
-use mathlib.Core.Path.{◌≡◌}
-use Prim.Native.Nat.{◌+◌, ◌-◌, ◌*◌}
+use Prim.Native.Nat.{◌*◌}
 use native.Mathlib.Omega.{arith}
-use borrow.Author.Rules.{rules}
-use Rattle.rings.specs.Parts.{part, length_part}
-use Rattle.best.specs.Kept.{Kept, kept_self, kept_on}
-use Rattle.best.specs.Layouts.{Trying, trying_none, trying_more, trying_end, row_le, prices_layout, layout_part}
+use Rattle.rings.specs.Parts.{length_part}
+use Rattle.best.specs.Kept.{kept_self, kept_on}
+use Rattle.best.specs.Layouts.{trying_none, trying_more, trying_end, row_le, prices_layout, layout_part}
 use Rattle.best.proofs.many.best_many.Goals as goal
-use Rattle.best.proofs.many.best_many.Goals.{Start}
 
 pub loop-r-init : goal.loop-r-init
 loop-r-init c = ((trying_none _ _ _ _ _ _ _, kept_self _ _), omega arith, omega arith)
@@ -22,7 +19,7 @@ best_between-best-requires c =
     record {
       shape = c.requires.shape;
       prices = rw (layout_part c.args.at c.args.size c.args.layouts c.loop-r.r c.loop-r.a c.loop-r.invariant.0.1 (omega arith) lt c.loop-r.invariant.1)
-            (prices_layout c.args.size c.args.layouts c.loop-r.r c.requires.prices (length_part c.args.work.now c.args.at (c.args.layouts * c.args.size) (omega arith)) lt);
+          (prices_layout c.args.size c.args.layouts c.loop-r.r c.requires.prices (length_part c.args.work.now c.args.at (c.args.layouts * c.args.size) (omega arith)) lt);
       size_bound = (omega arith, omega arith, omega (arith, c.loop-r.invariant.0.1.len), p.3);
     }
 

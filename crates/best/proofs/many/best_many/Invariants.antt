@@ -2,11 +2,9 @@
 -- The measure is the number of layouts left. Assumes nothing.
 use mathlib.Core.Path.{◌≡◌}
 use Prim.Native.Nat.{◌+◌, ◌-◌, ◌*◌}
-use native.Mathlib.Omega.{arith}
-use borrow.Author.Rules.{rules}
-use Rattle.rings.specs.Parts.{part, length_part}
-use Rattle.best.specs.Kept.{Kept, kept_self, kept_on}
-use Rattle.best.specs.Layouts.{Trying, trying_none, trying_more, trying_end, row_le, prices_layout, layout_part}
+use Rattle.rings.specs.Parts.{part}
+use Rattle.best.specs.Kept.{Kept}
+use Rattle.best.specs.Layouts.{Trying}
 use Rattle.best.proofs.many.best_many.Given as goal
 
 abbrev pub invariant-loop-r : goal.invariant-loop-r

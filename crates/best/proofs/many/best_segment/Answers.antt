@@ -1,9 +1,7 @@
 -- `next_set` gives the first free rotation of the segment, and costs never fall from there on. Assumes nothing.
 use native.Mathlib.Omega.{arith}
-use borrow.Author.Rules.{rules}
 use Rattle.best.specs.Segments.{segment_first, segment_none}
 use Rattle.best.proofs.many.best_segment.Goals as goal
-use Rattle.best.proofs.many.best_segment.Goals.{Start}
 
 pub better_of-requires : goal.better_of-requires
 better_of-requires c =

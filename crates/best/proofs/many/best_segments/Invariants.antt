@@ -1,14 +1,9 @@
 -- The best so far is that of the rotations below `begin`; from there to the next wrap point costs never fall. The measure is n - begin. Assumes nothing.
-use mathlib.Core.Path.{◌≡◌, sym}
+use mathlib.Core.Path.{◌≡◌}
 use Prim.Native.Nat.{◌≤◌, ◌-◌}
-use native.Mathlib.Omega.{arith}
-use borrow.Author.Rules.{rules}
 use Rattle.rings.specs.Keys.{cost_at}
-use Rattle.rings.specs.RingLaws.{n_le}
 use Rattle.best.specs.Best.{best_from}
-use Rattle.best.specs.BestLaws.{from_none}
 use Rattle.best.specs.Prices.{is_free}
-use Rattle.best.specs.Segments.{next_rises, segment_more}
 use Rattle.best.proofs.many.best_segments.Given as goal
 
 abbrev pub invariant-loop-begin : goal.invariant-loop-begin

@@ -2,9 +2,7 @@
 use mathlib.Core.Path.{ap, ◌∙◌}
 use Prim.Native.Nat.{ℕ}
 use Rattle.best.specs.Best.{better}
-use borrow.Author.Rules.{rules}
 use Rattle.best.proofs.price.better_of.Goals as goal
-use Rattle.best.proofs.price.better_of.Goals.{Start}
 
 pub returns : goal.returns
 returns c = c.cheaper.ensures ∙ ap (λ (x : ℕ). better x c.args.r c.args.j c.args.best) c.cost-c.ensures.0

@@ -1,12 +1,9 @@
 -- The sum so far is that of the keys passed (`sum_to`), at step j 2^t and mask (n - 1) 2^t; each entry is one of the table's, and no sum of fewer than
 -- 2^32 entries of 32 bits reaches 2^64 - 1. The measure is the number of keys left. Assumes nothing.
-use mathlib.Core.Path.{◌≡◌, sym, ◌∙◌}
-use Prim.Native.Nat.{◌≤◌, ◌-◌, ◌*◌, ◌%◌, ◌^◌}
-use native.Mathlib.Omega.{arith}
+use mathlib.Core.Path.{◌≡◌}
+use Prim.Native.Nat.{◌≤◌, ◌-◌, ◌*◌}
 use lib.ListN.{length}
-use borrow.Author.Rules.{rules}
-use Rattle.rings.specs.RingLaws.{n_pos}
-use Rattle.best.specs.PriceLaws.{sum_to, sum_none, sum_more, sum_cost, sum_fits, code_fits, code_in}
+use Rattle.best.specs.PriceLaws.{sum_to}
 use Rattle.best.proofs.price.cost.Given as goal
 
 abbrev pub invariant-loop-i : goal.invariant-loop-i

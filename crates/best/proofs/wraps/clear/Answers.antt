@@ -1,8 +1,6 @@
 -- The words below i are cleared (`Clearing`). The measure is the number of words left. Assumes nothing.
-use Prim.Native.Nat.{◌-◌}
 use native.Mathlib.Omega.{arith}
-use borrow.Author.Rules.{rules}
-use Rattle.best.specs.WrapLaws.{Clearing, clearing_none, clearing_more, clearing_end}
+use Rattle.best.specs.WrapLaws.{clearing_none, clearing_more, clearing_end}
 use Rattle.best.proofs.wraps.clear.Goals as goal
 
 pub loop-i-init : goal.loop-i-init

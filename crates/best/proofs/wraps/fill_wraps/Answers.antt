@@ -1,7 +1,5 @@
 -- The set has the points of the keys below i (`Pointing`), which lie below the set and stay. The measure is the number of keys left. Assumes nothing.
-use Prim.Native.Nat.{◌-◌}
-use borrow.Author.Rules.{rules}
-use Rattle.best.specs.WrapLaws.{Pointing, pointing_none, pointing_more, pointing_end}
+use Rattle.best.specs.WrapLaws.{pointing_none, pointing_more, pointing_end}
 use Rattle.best.proofs.wraps.fill_wraps.Goals as goal
 
 pub loop-i-init : goal.loop-i-init

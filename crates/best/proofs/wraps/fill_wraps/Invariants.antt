@@ -1,7 +1,6 @@
 -- The set has the points of the keys below i (`Pointing`), which lie below the set and stay. The measure is the number of keys left. Assumes nothing.
 use Prim.Native.Nat.{◌-◌}
-use borrow.Author.Rules.{rules}
-use Rattle.best.specs.WrapLaws.{Pointing, pointing_none, pointing_more, pointing_end}
+use Rattle.best.specs.WrapLaws.{Pointing}
 use Rattle.best.proofs.wraps.fill_wraps.Given as goal
 
 abbrev pub invariant-loop-i : goal.invariant-loop-i

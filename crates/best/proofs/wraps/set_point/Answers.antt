@@ -1,5 +1,4 @@
 -- A key at place 0 has no wrap point; any other has the bit n - x, which is one of the set's. Assumes nothing.
-use borrow.Author.Rules.{rules}
 use Rattle.best.specs.WrapLaws.{point_none, point_set}
 use Rattle.best.proofs.wraps.set_point.Goals as goal
 

@@ -4,7 +4,7 @@ use Rattle.rules.specs.Answers.{Said, Answer, said_counted, unless, count_answer
 use Rattle.rules.specs.Numbers.{first_of, count_lines, line3}
 use Rattle.rules.specs.BucketCount.{size_cap, size_fits, quotient_float, half_up, odd_up, buckets_for}
 use lib.Ieee.{Float, binary64, div, of_int, in_float}
-use Rattle.std.proofs.Common.{◌≡◌, ℕ, max, cond, not, ◌||◌, ltb, [], ◌∷◌, pos, sym, refl, ap, ◌∙◌, subst, le_trans, lit≤, le→leb, rules, le-ltb, lt-ltb}
+use Rattle.std.proofs.Common.{◌≡◌, ℕ, max, cond, not, ◌||◌, ltb, [], ◌∷◌, pos, sym, refl, ap, ◌∙◌, subst, le_trans, lit≤, le→leb, le-ltb, lt-ltb}
 use Rattle.geometry.proofs.count.bucket_count.Goals as goal
 use Rattle.geometry.proofs.count.bucket_count.Goals.{After-size_cap-cap, Else-k-gt67108864, Else-log2_slice_len-gt16, Else-not-size-cap}
 

@@ -1,5 +1,5 @@
 use Rattle.rules.specs.BucketCount.{odd_up}
-use Rattle.std.proofs.Common.{◌≡◌, sym, ap, arith, rules}
+use Rattle.std.proofs.Common.{sym, ap, arith}
 use native.Mathlib.Nat.{max-eq_right}
 use Rattle.geometry.proofs.count.odd_up.Goals as goal
 

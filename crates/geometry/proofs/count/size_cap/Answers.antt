@@ -1,5 +1,5 @@
 use Rattle.rules.specs.BucketCount.{size_cap}
-use Rattle.std.proofs.Common.{◌≡◌, ℕ, ◌/◌, min, ap, ◌∙◌, arith, rules}
+use Rattle.std.proofs.Common.{ℕ, ◌/◌, min, ap, ◌∙◌, arith}
 use Rattle.geometry.proofs.count.size_cap.Goals as goal
 
 pub returns : goal.returns

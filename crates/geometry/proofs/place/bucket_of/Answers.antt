@@ -1,5 +1,5 @@
 use Rattle.rules.specs.Geometry as G
-use Rattle.std.proofs.Common.{arith, rules}
+use Rattle.std.proofs.Common.{arith}
 use Rattle.geometry.proofs.place.bucket_of.Goals as goal
 
 pub returns : goal.returns

@@ -1,7 +1,7 @@
 use Rattle.geometry.proofs.Places.{first_halves, first_high}
 use Rattle.geometry.proofs.Sizes.{sized}
 use Rattle.rules.specs.Geometry as G
-use Rattle.std.proofs.Common.{◌≡◌, ℕ, ◌+◌, ◌*◌, ◌/◌, ◌^◌, ◌≤◌, sym, ap, ◌∙◌, ap₂, arith, w64, Fits, rules}
+use Rattle.std.proofs.Common.{◌≡◌, ℕ, ◌+◌, ◌*◌, ◌/◌, ◌^◌, ◌≤◌, ap, ◌∙◌, ap₂, arith, w64, Fits}
 use Rattle.geometry.proofs.place.first.Goals as goal
 use Rattle.geometry.proofs.place.first.Goals.{Start}
 

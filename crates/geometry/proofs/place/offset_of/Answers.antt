@@ -1,5 +1,4 @@
 use Rattle.rules.specs.Geometry as G
-use Rattle.std.proofs.Common.{rules}
 use Rattle.geometry.proofs.place.offset_of.Goals as goal
 
 pub returns : goal.returns

@@ -4,7 +4,7 @@ use Rattle.rules.proofs.GeometryLaws.{position_lt}
 use Rattle.rules.specs.Geometry as G
 use Rattle.integers.specs.Shifts.{mask_is}
 use lib.Bits.{bit_and, and_le_r}
-use Rattle.std.proofs.Common.{◌≡◌, ℕ, ◌+◌, ◌-◌, ◌*◌, ◌/◌, ◌%◌, ◌^◌, ◌<◌, ◌≤◌, sym, refl, ap, ◌∙◌, subst, ap₂, mod-lt, mod-eq_of_lt, arith, rules}
+use Rattle.std.proofs.Common.{◌≡◌, ℕ, ◌+◌, ◌-◌, ◌*◌, ◌/◌, ◌%◌, ◌^◌, ◌<◌, sym, ap, ◌∙◌, subst, mod-lt, mod-eq_of_lt, arith}
 use Rattle.geometry.proofs.place.position.Goals as goal
 use Rattle.geometry.proofs.place.position.Goals.{Start}
 

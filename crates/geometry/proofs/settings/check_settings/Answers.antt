@@ -1,5 +1,5 @@
 use Rattle.rules.specs.Answers.{Said, Answer, Refusal, unless, said_checked, settings_answer}
-use Rattle.std.proofs.Common.{◌≡◌, ℕ, zero, suc, ◌≢◌, [], ◌∷◌, sym, refl, ap, ◌∙◌, rules}
+use Rattle.std.proofs.Common.{◌≡◌, ℕ, zero, suc, ◌≢◌, [], sym, refl, ap, ◌∙◌}
 use Rattle.geometry.proofs.settings.check_settings.Goals as goal
 
 -- a number that applies is the refusal

@@ -1,5 +1,5 @@
 use Rattle.rules.proofs.GeometryLaws.{log_len_is}
-use Rattle.std.proofs.Common.{◌≡◌, sym, refl, ap, ◌∙◌, arith, rules}
+use Rattle.std.proofs.Common.{arith}
 use Rattle.geometry.proofs.settings.log2_len.Goals as goal
 
 pub returns : goal.returns

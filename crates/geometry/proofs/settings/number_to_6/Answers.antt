@@ -1,6 +1,6 @@
 use Rattle.rules.specs.Numbers.{first_of, lines_to6, line1, line2, line3, line4, line5, line6}
 use Rattle.integers.specs.Shifts.{shl_is}
-use Rattle.std.proofs.Common.{◌≡◌, ℕ, ◌*◌, ◌%◌, ◌^◌, ◌≤◌, refl, mul-le-mul, arith, pow_mono, rules, le-ltb, lt-ltb, eq-eqb, ne_eqb, le-leb}
+use Rattle.std.proofs.Common.{◌≡◌, ℕ, ◌*◌, ◌%◌, ◌^◌, ◌≤◌, refl, mul-le-mul, arith, pow_mono, le-ltb, lt-ltb, eq-eqb, ne_eqb, le-leb}
 use borrow.Author.Tests.{lt-leb}
 use Rattle.geometry.proofs.settings.number_to_6.Goals as goal
 use Rattle.geometry.proofs.settings.number_to_6.Goals.{Else-ll-gt6}

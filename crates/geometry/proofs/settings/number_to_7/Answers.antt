@@ -1,7 +1,7 @@
 use Rattle.rules.proofs.CheckLaws.{passes_6, numbered_6}
 use Rattle.rules.proofs.Lines.{first_append_zero, first_append_some}
 use Rattle.rules.specs.Numbers.{first_of, lines_to6, lines_to7, line7}
-use Rattle.std.proofs.Common.{◌≡◌, [], ◌∷◌, sym, refl, ap, ◌∙◌, arith, rules, le-ltb, lt-ltb}
+use Rattle.std.proofs.Common.{◌≡◌, [], ◌∷◌, sym, refl, ◌∙◌, arith, le-ltb, lt-ltb}
 use Rattle.geometry.proofs.settings.number_to_7.Goals as goal
 use Rattle.geometry.proofs.settings.number_to_7.Goals.{Else-n-ne0}
 

@@ -1,5 +1,5 @@
 use Rattle.rules.specs.Geometry.{per_bucket}
-use Rattle.std.proofs.Common.{◌≡◌, ℕ, ◌+◌, ◌-◌, ◌/◌, sym, refl, ap, ◌∙◌, lt_of_le_of_lt, div-le_self, arith, rules}
+use Rattle.std.proofs.Common.{ℕ, ◌+◌, ◌-◌, ◌/◌, ap, lt_of_le_of_lt, div-le_self, arith}
 use Rattle.geometry.proofs.settings.per_bucket.Goals as goal
 
 pub returns : goal.returns

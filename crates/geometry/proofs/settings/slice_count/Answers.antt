@@ -1,5 +1,5 @@
 use Rattle.rules.specs.Geometry.{slices}
-use Rattle.std.proofs.Common.{◌≡◌, ℕ, ◌+◌, ◌-◌, sym, refl, ap, ◌∙◌, arith, rules}
+use Rattle.std.proofs.Common.{ℕ, ◌+◌, ◌-◌, ap, arith}
 use Rattle.geometry.proofs.settings.slice_count.Goals as goal
 
 pub returns : goal.returns

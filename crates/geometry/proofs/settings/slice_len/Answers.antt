@@ -1,5 +1,5 @@
 use Rattle.rules.proofs.GeometryLaws.{len_pow, len_le_m}
-use Rattle.std.proofs.Common.{◌≡◌, ℕ, ◌^◌, sym, refl, ap, ◌∙◌, arith, rules}
+use Rattle.std.proofs.Common.{ℕ, ◌^◌, sym, ap, ◌∙◌, arith}
 use Rattle.geometry.proofs.settings.slice_len.Goals as goal
 
 pub returns : goal.returns

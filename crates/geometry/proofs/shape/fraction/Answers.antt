@@ -1,5 +1,5 @@
 use Rattle.integers.specs.Division.{part_lt, two_digits}
-use Rattle.std.proofs.Common.{◌≡◌, ℕ, ◌+◌, ◌*◌, ◌/◌, ◌%◌, ◌^◌, ◌<◌, ◌≤◌, ap, ◌∙◌, mod-lt, arith, pow_pos, rules}
+use Rattle.std.proofs.Common.{◌*◌, ◌/◌, ◌%◌, ◌^◌, ◌<◌, mod-lt, arith, pow_pos}
 use Rattle.geometry.proofs.shape.fraction.Goals as goal
 use Rattle.geometry.proofs.shape.fraction.Goals.{Start}
 

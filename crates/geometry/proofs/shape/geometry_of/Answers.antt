@@ -1,5 +1,5 @@
 use Rattle.geometry.proofs.Assemble.{assemble}
-use Rattle.std.proofs.Common.{mod-lt, arith, rules}
+use Rattle.std.proofs.Common.{mod-lt, arith}
 use Rattle.geometry.proofs.shape.geometry_of.Goals as goal
 
 pub fraction-q_lo-requires : goal.fraction-q_lo-requires

@@ -1,4 +1,4 @@
-use Rattle.std.proofs.Common.{◌≡◌, ℕ, ◌+◌, ◌*◌, ◌/◌, ◌≤◌, ap, mul-le-mul, arith, rules}
+use Rattle.std.proofs.Common.{ℕ, ◌+◌, ◌*◌, ◌/◌, ◌≤◌, ap, mul-le-mul, arith}
 use Rattle.geometry.proofs.shape.words.Goals as goal
 use Rattle.geometry.proofs.shape.words.Goals.{After-larger-n}
 

@@ -1,6 +1,6 @@
 use Rattle.geometry.proofs.Sizes.{sized}
 use Rattle.rules.specs.Geometry as G
-use Rattle.std.proofs.Common.{◌≡◌, ℕ, ◌+◌, ◌*◌, ◌/◌, ◌^◌, max, sym, refl, ap, ◌∙◌, arith}
+use Rattle.std.proofs.Common.{refl, ◌∙◌, arith}
 use Rattle.geometry.proofs.shape.work_words.Goals as goal
 
 pub words-requires : goal.words-requires

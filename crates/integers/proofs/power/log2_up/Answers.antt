@@ -3,7 +3,6 @@ use mathlib.Core.Path.{◌≡◌, subst, sym}
 use Prim.Native.Nat.{ℕ, ◌-◌}
 use native.Mathlib.Omega.{arith}
 use lib.Count.{count_leading_zeros, leading_le}
-use borrow.Author.Rules.{rules}
 use Rattle.integers.specs.PowerLaws.{log_up_is, log_of_zeros}
 use Rattle.integers.specs.Power.{log_up}
 use Rattle.integers.proofs.power.log2_up.Goals as goal

@@ -2,7 +2,6 @@
 use mathlib.Core.Path.{◌≡◌, ap, ◌∙◌}
 use Prim.Native.Nat.{ℕ, ◌^◌, ◌*◌, ◌%◌, ◌<◌}
 use native.Mathlib.Omega.{arith}
-use borrow.Author.Rules.{rules}
 use Rattle.integers.specs.Shifts.{one_shl}
 use Rattle.integers.specs.PowerLaws.{log_up_least, least_power_above, least_power_pos, least_power_tight}
 use Rattle.integers.specs.Power.{least_power}

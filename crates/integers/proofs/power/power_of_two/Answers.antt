@@ -2,7 +2,6 @@
 use Prim.Native.Nat.{◌^◌, ◌≤◌}
 use native.Mathlib.Omega.{arith}
 use lib.Pow.{pow_mono, pow_pos}
-use borrow.Author.Rules.{rules}
 use Rattle.integers.specs.Shifts.{one_shl}
 use Rattle.integers.proofs.power.power_of_two.Goals as goal
 

@@ -3,7 +3,6 @@ use mathlib.Core.Path.{subst}
 use Prim.Native.Nat.{ℕ, ◌*◌, ◌/◌, ◌^◌, ◌≤◌, ◌-◌}
 use native.Mathlib.Omega.{arith}
 use native.Mathlib.Nat.{mul_comm}
-use borrow.Author.Rules.{rules}
 use Rattle.integers.specs.Division.{part_le}
 use Rattle.integers.proofs.product.mul_hi.Goals as goal
 

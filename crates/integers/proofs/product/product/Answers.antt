@@ -4,7 +4,6 @@ use Prim.Native.Nat.{ℕ, ◌+◌}
 use native.Mathlib.Omega.{arith}
 use lib.Dec.{lit≤}
 use lib.Pow.{shl_exact}
-use borrow.Author.Rules.{rules}
 use Rattle.integers.proofs.Columns.{Ladder, high_is, low_is}
 use Rattle.integers.proofs.product.product.Goals as goal
 use Rattle.integers.proofs.product.product.Goals.{After-low_half-3}

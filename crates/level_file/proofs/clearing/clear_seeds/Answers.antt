@@ -1,9 +1,6 @@
 -- `clear_seeds`: zeroes so far (`Zeroed`). Assumes nothing.
-use Rattle.level_file.proofs.ClearLaws.{Zeroed, zeroed_start, zeroed_step, zeroed_all}
-use borrow.Author.Rules.{rules}
+use Rattle.level_file.proofs.ClearLaws.{zeroed_start, zeroed_step, zeroed_all}
 use native.Mathlib.Omega.{arith}
-use Prim.Native.Nat.{◌-◌}
-use lib.ListN.{length}
 use Rattle.level_file.proofs.clearing.clear_seeds.Goals as goal
 
 pub loop-i-init : goal.loop-i-init

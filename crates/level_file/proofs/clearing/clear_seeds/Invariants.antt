@@ -1,7 +1,5 @@
 -- `clear_seeds`: zeroes so far (`Zeroed`). Assumes nothing.
-use Rattle.level_file.proofs.ClearLaws.{Zeroed, zeroed_start, zeroed_step, zeroed_all}
-use borrow.Author.Rules.{rules}
-use native.Mathlib.Omega.{arith}
+use Rattle.level_file.proofs.ClearLaws.{Zeroed}
 use Prim.Native.Nat.{◌-◌}
 use lib.ListN.{length}
 use Rattle.level_file.proofs.clearing.clear_seeds.Given as goal

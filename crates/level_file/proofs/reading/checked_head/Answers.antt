@@ -1,6 +1,5 @@
 -- `checked_head`: 1 to 7 after the settings are read. Assumes nothing.
 use Rattle.level_file.proofs.HeadLaws.{head_refused, head_fine}
-use borrow.Author.Rules.{rules}
 use Rattle.level_file.proofs.reading.checked_head.Goals as goal
 
 pub returns-then-n-ne0 : goal.returns-then-n-ne0

@@ -8,22 +8,22 @@ use Rattle.level_file.proofs.reading.read_file.Goals as goal
 pub returns-in-Level : goal.returns-in-Level
 returns-in-Level c =
     let l = c.read_lent.ensures in
-    let e = c.settings-1.given.1 in
+    let e = c.in-Level.is in
     record {
-      answer = said_read_lem _ _ (sym e ∙ l.0);
-      first = full_seeds _ _ l.0 _ _ _ _ e l.1.0;
-      second = full_holes _ _ l.0 _ _ _ _ e l.1.1;
+      answer = said_read_lem _ _ (sym e ∙ l.answer);
+      first = full_seeds _ _ l.answer _ _ _ _ e l.first;
+      second = full_holes _ _ l.answer _ _ _ _ e l.second;
     }
 
 pub returns-in-Refused : goal.returns-in-Refused
 returns-in-Refused c =
     let a = c.args in
     let l = c.read_lent.ensures in
-    let e = c.n-1.given.1 in
+    let e = c.in-Refused.is in
     let s : length c.read_lent.new.seeds ≡ length a.seeds.now = search rules in
     let h : length c.read_lent.new.holes ≡ length a.holes.now = search rules in
     record {
-      answer = said_read_lem _ _ (sym e ∙ l.0);
-      first = zero_seeds _ _ l.0 a.seeds.now _ _ e (as_many a.seeds.now c.read_lent.new.seeds _ s c.clear_seeds.ensures);
-      second = zero_holes _ _ l.0 a.holes.now _ _ e (as_many a.holes.now c.read_lent.new.holes _ h c.clear_holes.ensures);
+      answer = said_read_lem _ _ (sym e ∙ l.answer);
+      first = zero_seeds _ _ l.answer a.seeds.now _ _ e (as_many a.seeds.now c.read_lent.new.seeds _ s c.clear_seeds.ensures);
+      second = zero_holes _ _ l.answer a.holes.now _ _ e (as_many a.holes.now c.read_lent.new.holes _ h c.clear_holes.ensures);
     }

@@ -1,9 +1,6 @@
 -- `read_holes`: as `read_seeds`, with the hole before and the least difference as what goes on. Assumes nothing.
-use Rattle.level_file.proofs.FillLaws.{Filling, filling_start, filling_step, filling_refused, filling_void, filling_done, filling_leaves, number_got, number_no, holes_next, holes_low, holes_high, holes_no, holes_start, holes_none}
-use Rattle.level_file.specs.Reading.{holes_at}
-use borrow.Author.Rules.{rules}
+use Rattle.level_file.proofs.FillLaws.{filling_start, filling_step, filling_refused, filling_void, filling_done, filling_leaves, number_got, number_no, holes_next, holes_low, holes_high, holes_no, holes_start, holes_none}
 use native.Mathlib.Omega.{arith}
-use Prim.Native.Nat.{◌-◌, ◌≤◌}
 use Rattle.level_file.proofs.reading.read_holes.Goals as goal
 
 pub loop-i-init : goal.loop-i-init
@@ -12,7 +9,7 @@ loop-i-init c = (filling_start _ _ _ (holes_start _ _ _ _), omega arith, omega a
 pub returns-then-value-least : goal.returns-then-value-least
 returns-then-value-least c =
     let a = c.args in
-    let e = holes_low a.bytes.now a.m a.count c.loop-i.i c.loop-i.before c.loop-i.least c.loop-i.place c.loop-i-test.true _ _ (number_got _ _ _ c.number_at.ensures _ _ c.value-1.given.1) c.if-value-least.true in
+    let e = holes_low a.bytes.now a.m a.count c.loop-i.i c.loop-i.before c.loop-i.least c.loop-i.place c.loop-i-test.true _ _ (number_got _ _ _ c.number_at.ensures _ _ c.in-Number.is) c.if-value-least.true in
     record {
       answer = filling_refused _ _ _ _ _ c.loop-i.invariant.0 24 e;
       buffer = filling_void _ _ _ _ _ c.loop-i.invariant.0 24 e;
@@ -21,7 +18,7 @@ returns-then-value-least c =
 pub returns-then-value-m : goal.returns-then-value-m
 returns-then-value-m c =
     let a = c.args in
-    let e = holes_high a.bytes.now a.m a.count c.loop-i.i c.loop-i.before c.loop-i.least c.loop-i.place c.loop-i-test.true _ _ (number_got _ _ _ c.number_at.ensures _ _ c.value-1.given.1) c.if-value-least.false c.if-value-m.true in
+    let e = holes_high a.bytes.now a.m a.count c.loop-i.i c.loop-i.before c.loop-i.least c.loop-i.place c.loop-i-test.true _ _ (number_got _ _ _ c.number_at.ensures _ _ c.in-Number.is) c.if-value-least.false c.if-value-m.true in
     record {
       answer = filling_refused _ _ _ _ _ c.loop-i.invariant.0 24 e;
       buffer = filling_void _ _ _ _ _ c.loop-i.invariant.0 24 e;
@@ -30,7 +27,7 @@ returns-then-value-m c =
 pub returns-in-Refused : goal.returns-in-Refused
 returns-in-Refused c =
     let a = c.args in
-    let e = holes_no a.bytes.now a.m a.count c.loop-i.i c.loop-i.before c.loop-i.least c.loop-i.place c.loop-i-test.true _ (number_no _ _ _ c.number_at.ensures _ c.n-1.given.1) in
+    let e = holes_no a.bytes.now a.m a.count c.loop-i.i c.loop-i.before c.loop-i.least c.loop-i.place c.loop-i-test.true _ (number_no _ _ _ c.number_at.ensures _ c.in-Refused.is) in
     record {
       answer = filling_refused _ _ _ _ _ c.loop-i.invariant.0 _ e;
       buffer = filling_void _ _ _ _ _ c.loop-i.invariant.0 _ e;
@@ -42,7 +39,7 @@ loop-i-smaller c = omega arith
 pub loop-i-preserved : goal.loop-i-preserved
 loop-i-preserved c =
     let a = c.args in
-    let e = holes_next a.bytes.now a.m a.count c.loop-i.i c.loop-i.before c.loop-i.least c.loop-i.place c.loop-i-test.true _ _ (number_got _ _ _ c.number_at.ensures _ _ c.value-1.given.1) c.if-value-least.false c.if-value-m.false in
+    let e = holes_next a.bytes.now a.m a.count c.loop-i.i c.loop-i.before c.loop-i.least c.loop-i.place c.loop-i-test.true _ _ (number_got _ _ _ c.number_at.ensures _ _ c.in-Number.is) c.if-value-least.false c.if-value-m.false in
     (filling_step _ _ _ _ _ c.loop-i.invariant.0 _ _ (omega (arith, c.loop-i.invariant.0.same)) e, omega arith, omega arith)
 
 pub returns : goal.returns

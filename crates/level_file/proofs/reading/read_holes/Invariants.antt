@@ -1,8 +1,6 @@
 -- `read_holes`: as `read_seeds`, with the hole before and the least difference as what goes on. Assumes nothing.
-use Rattle.level_file.proofs.FillLaws.{Filling, filling_start, filling_step, filling_refused, filling_void, filling_done, filling_leaves, number_got, number_no, holes_next, holes_low, holes_high, holes_no, holes_start, holes_none}
+use Rattle.level_file.proofs.FillLaws.{Filling}
 use Rattle.level_file.specs.Reading.{holes_at}
-use borrow.Author.Rules.{rules}
-use native.Mathlib.Omega.{arith}
 use Prim.Native.Nat.{◌-◌, ◌≤◌}
 use Rattle.level_file.proofs.reading.read_holes.Given as goal
 

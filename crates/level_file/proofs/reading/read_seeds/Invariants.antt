@@ -1,9 +1,7 @@
 -- `read_seeds`: at each turn the whole gives what the seeds so far and what is left to read give (`Filling`). Assumes nothing.
-use Rattle.level_file.proofs.FillLaws.{Filling, filling_start, filling_step, filling_refused, filling_void, filling_done, filling_leaves, number_got, number_no, numbers_next, numbers_bad, numbers_no, numbers_start, numbers_none}
+use Rattle.level_file.proofs.FillLaws.{Filling}
 use Rattle.level_file.specs.Format.{not_below}
 use Rattle.level_file.specs.Reading.{numbers_at}
-use borrow.Author.Rules.{rules}
-use native.Mathlib.Omega.{arith}
 use Prim.Native.Nat.{◌-◌, ◌≤◌}
 use Rattle.level_file.proofs.reading.read_seeds.Given as goal
 

@@ -1,7 +1,6 @@
 -- `measure_head`: seven numbers of at most ten groups. Assumes nothing.
 use Rattle.level_file.proofs.MeasureLaws.{head_length}
 use Rattle.house_numbers.specs.EncodeLaws.{length_ten}
-use borrow.Author.Rules.{rules}
 use native.Mathlib.Omega.{arith}
 use Rattle.level_file.proofs.writing.measure_head.Goals as goal
 

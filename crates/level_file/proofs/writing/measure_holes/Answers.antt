@@ -1,13 +1,10 @@
 -- `measure_holes`: as `measure_seeds`, with the hole before and the least difference; holes that rise below m are at most m, so the sum fits. Assumes nothing.
 use Rattle.level_file.proofs.PutLaws.{gaps_next, gaps_all}
-use Rattle.level_file.proofs.MeasureLaws.{Measuring, measuring_start, measuring_bad, measuring_step, measuring_done, hole_rises, hole_low, hole_high, holes_end}
-use Rattle.level_file.specs.Format.{gaps_from, holes_fine}
+use Rattle.level_file.proofs.MeasureLaws.{measuring_start, measuring_bad, measuring_step, measuring_done, hole_rises, hole_low, hole_high, holes_end}
 use Rattle.house_numbers.specs.EncodeLaws.{length_ten}
 use mathlib.Core.Path.{ap}
-use borrow.Author.Rules.{rules}
 use native.Mathlib.Omega.{arith}
-use Prim.Native.Nat.{ℕ, ◌+◌, ◌-◌, ◌*◌, ◌≤◌}
-use lib.ListN.{length, drop}
+use Prim.Native.Nat.{ℕ, ◌+◌, ◌-◌}
 use Rattle.level_file.proofs.writing.measure_holes.Goals as goal
 
 pub loop-i-init : goal.loop-i-init

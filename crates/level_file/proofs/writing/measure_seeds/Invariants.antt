@@ -1,12 +1,7 @@
 -- `measure_seeds`: what is told of the seeds is told of those that are left (`Measuring`). Assumes nothing.
-use Rattle.level_file.proofs.PutLaws.{drop_as, drop_all}
-use Rattle.level_file.proofs.MeasureLaws.{Measuring, measuring_start, measuring_bad, measuring_step, measuring_done, seeds_low, seeds_high, seeds_end}
+use Rattle.level_file.proofs.MeasureLaws.{Measuring}
 use Rattle.level_file.specs.Format.{not_below, all_but}
-use Rattle.house_numbers.specs.EncodeLaws.{length_ten}
-use mathlib.Core.Path.{ap}
-use borrow.Author.Rules.{rules}
-use native.Mathlib.Omega.{arith}
-use Prim.Native.Nat.{ℕ, ◌+◌, ◌-◌, ◌*◌, ◌≤◌}
+use Prim.Native.Nat.{◌-◌, ◌*◌, ◌≤◌}
 use lib.ListN.{length, drop}
 use Rattle.level_file.proofs.writing.measure_seeds.Given as goal
 

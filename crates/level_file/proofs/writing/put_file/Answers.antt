@@ -41,6 +41,6 @@ returns c =
     let g = c.put_groups-third.ensures in
     let d = c.put_holes.ensures in
     record {
-      value = omega (arith, file_length (level_of a.settings a.seeds.now a.holes.now), h.0, s.0, g.0, d.0);
-      out_after = file_put (level_of a.settings a.seeds.now a.holes.now) _ _ _ _ _ _ _ _ h.1 h.0 s.1 s.0 g.1 g.0 d.1 c.requires.holes_in_bounds;
+      value = omega (arith, file_length (level_of a.settings a.seeds.now a.holes.now), h.value, s.value, g.value, d.value);
+      out_after = file_put (level_of a.settings a.seeds.now a.holes.now) _ _ _ _ _ _ _ _ h.out_after h.value s.out_after s.value g.out_after g.value d.out_after c.requires.holes_in_bounds;
     }

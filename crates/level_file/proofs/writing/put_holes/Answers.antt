@@ -1,12 +1,7 @@
 -- `put_holes`: as `put_seeds`, with the hole before; a hole is never below it (`Climbs`). Assumes nothing.
-use Rattle.level_file.proofs.PutLaws.{gaps_next, gaps_all, climbs_next, Putting, putting_start, putting_room, putting_step, putting_end, putting_done}
-use Rattle.level_file.specs.Format.{gaps_from}
-use Rattle.level_file.specs.Writing.{Climbs}
+use Rattle.level_file.proofs.PutLaws.{gaps_next, gaps_all, climbs_next, putting_start, putting_room, putting_step, putting_end, putting_done}
 use mathlib.Core.Path.{refl}
-use borrow.Author.Rules.{rules}
 use native.Mathlib.Omega.{arith}
-use Prim.Native.Nat.{◌-◌, ◌≤◌}
-use lib.ListN.{length, drop}
 use Rattle.level_file.proofs.writing.put_holes.Goals as goal
 
 pub loop-i-init : goal.loop-i-init
@@ -27,7 +22,7 @@ loop-i-preserved c =
     let t = c.loop-i-test.true in
     let h = c.wide32-hole.ensures in
     let g = c.put_groups-place.ensures in
-    (putting_step _ _ _ _ _ _ c.loop-i.invariant.0 _ _ (gaps_next _ _ _ _ h t) _ _ g.1 g.0, (climbs_next _ _ _ _ h t c.loop-i.invariant.1).1, omega arith)
+    (putting_step _ _ _ _ _ _ c.loop-i.invariant.0 _ _ (gaps_next _ _ _ _ h t) _ _ g.out_after g.value, (climbs_next _ _ _ _ h t c.loop-i.invariant.1).1, omega arith)
 
 pub shape_of-out : goal.shape_of-out
 shape_of-out c = c.loop-i.invariant.0.same

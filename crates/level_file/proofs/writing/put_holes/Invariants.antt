@@ -1,10 +1,7 @@
 -- `put_holes`: as `put_seeds`, with the hole before; a hole is never below it (`Climbs`). Assumes nothing.
-use Rattle.level_file.proofs.PutLaws.{gaps_next, gaps_all, climbs_next, Putting, putting_start, putting_room, putting_step, putting_end, putting_done}
+use Rattle.level_file.proofs.PutLaws.{Putting}
 use Rattle.level_file.specs.Format.{gaps_from}
 use Rattle.level_file.specs.Writing.{Climbs}
-use mathlib.Core.Path.{refl}
-use borrow.Author.Rules.{rules}
-use native.Mathlib.Omega.{arith}
 use Prim.Native.Nat.{◌-◌, ◌≤◌}
 use lib.ListN.{length, drop}
 use Rattle.level_file.proofs.writing.put_holes.Given as goal

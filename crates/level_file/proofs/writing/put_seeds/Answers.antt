@@ -1,10 +1,7 @@
 -- `put_seeds`: what is left from the present place on (`Putting`). Assumes nothing.
-use Rattle.level_file.proofs.PutLaws.{drop_as, drop_all, Putting, putting_start, putting_room, putting_step, putting_end, putting_done}
+use Rattle.level_file.proofs.PutLaws.{drop_as, drop_all, putting_start, putting_room, putting_step, putting_end, putting_done}
 use mathlib.Core.Path.{refl}
-use borrow.Author.Rules.{rules}
 use native.Mathlib.Omega.{arith}
-use Prim.Native.Nat.{◌-◌, ◌≤◌}
-use lib.ListN.{length, drop}
 use Rattle.level_file.proofs.writing.put_seeds.Goals as goal
 
 pub loop-i-init : goal.loop-i-init
@@ -20,7 +17,7 @@ loop-i-smaller c = omega arith
 pub loop-i-preserved : goal.loop-i-preserved
 loop-i-preserved c =
     let g = c.put_groups-place.ensures in
-    (putting_step _ _ _ _ _ _ c.loop-i.invariant.0 _ _ (drop_as _ _ _ c.wide16-seed.ensures c.loop-i-test.true) _ _ g.1 g.0, omega arith)
+    (putting_step _ _ _ _ _ _ c.loop-i.invariant.0 _ _ (drop_as _ _ _ c.wide16-seed.ensures c.loop-i-test.true) _ _ g.out_after g.value, omega arith)
 
 pub shape_of-out : goal.shape_of-out
 shape_of-out c = c.loop-i.invariant.0.same

@@ -1,8 +1,5 @@
 -- `put_seeds`: what is left from the present place on (`Putting`). Assumes nothing.
-use Rattle.level_file.proofs.PutLaws.{drop_as, drop_all, Putting, putting_start, putting_room, putting_step, putting_end, putting_done}
-use mathlib.Core.Path.{refl}
-use borrow.Author.Rules.{rules}
-use native.Mathlib.Omega.{arith}
+use Rattle.level_file.proofs.PutLaws.{Putting}
 use Prim.Native.Nat.{◌-◌, ◌≤◌}
 use lib.ListN.{length, drop}
 use Rattle.level_file.proofs.writing.put_seeds.Given as goal

@@ -1,7 +1,6 @@
 -- `write_file`: the file where no number applies, and zeroes where one does. Assumes nothing.
 use Rattle.level_file.proofs.WriteLaws.{writable_climbs, write_refused, write_zero, may_write, write_done, write_file}
 use Rattle.level_file.specs.Format.{level_of}
-use borrow.Author.Rules.{rules}
 use Rattle.level_file.proofs.writing.write_file.Goals as goal
 
 pub returns-then-n-ne0 : goal.returns-then-n-ne0
@@ -30,6 +29,6 @@ returns c =
     let z = c.if-n-ne0.false in
     let f = c.put_file.ensures in
     record {
-      answer = write_done (level_of a.settings a.seeds.now a.holes.now) a.out.now _ e z _ f.0;
-      buffer = write_file (level_of a.settings a.seeds.now a.holes.now) a.out.now _ e z _ f.1;
+      answer = write_done (level_of a.settings a.seeds.now a.holes.now) a.out.now _ e z _ f.value;
+      buffer = write_file (level_of a.settings a.seeds.now a.holes.now) a.out.now _ e z _ f.out_after;
     }

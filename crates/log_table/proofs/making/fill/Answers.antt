@@ -1,6 +1,6 @@
 -- `fill` meets its contract: the loop keeps that the entries before d are there. Assumes nothing.
 use mathlib.Core.Path.{◌≡◌, refl, subst}
-use Prim.Native.Nat.{ℕ, ◌≤◌, ◌-◌, ◌/◌}
+use Prim.Native.Nat.{ℕ, ◌/◌}
 use native.Mathlib.Omega.{arith}
 use lib.ListN.{length, length-set}
 use Rattle.log_table.proofs.Entries.{Filled, filled_start, filled_put, filled_end, entry_small}

@@ -1,9 +1,8 @@
 -- `fill` meets its contract: the loop keeps that the entries before d are there. Assumes nothing.
-use mathlib.Core.Path.{◌≡◌, refl, subst}
-use Prim.Native.Nat.{ℕ, ◌≤◌, ◌-◌, ◌/◌}
-use native.Mathlib.Omega.{arith}
-use lib.ListN.{length, length-set}
-use Rattle.log_table.proofs.Entries.{Filled, filled_start, filled_put, filled_end, entry_small}
+use mathlib.Core.Path.{◌≡◌}
+use Prim.Native.Nat.{◌≤◌, ◌-◌}
+use lib.ListN.{length}
+use Rattle.log_table.proofs.Entries.{Filled}
 use Rattle.log_table.proofs.making.fill.Given as goal
 
 abbrev pub invariant-loop-d : goal.invariant-loop-d

@@ -3,8 +3,7 @@ use Prim.Native.Nat.{ℕ, ◌/◌, ◌+◌}
 use mathlib.Core.Path.{ap, ◌∙◌}
 use native.Mathlib.Omega.{arith}
 use lib.Count.{count_leading_zeros}
-use Rattle.log_table.specs.Logs.{squares}
-use Rattle.log_table.proofs.Entries.{Left, left_start, left_small, left_step, left_end, Begun, begun}
+use Rattle.log_table.proofs.Entries.{left_start, left_small, left_step, left_end, Begun, begun}
 use Rattle.log_table.proofs.making.log_entry.Goals as goal
 use Rattle.log_table.proofs.making.log_entry.Goals.{Start}
 

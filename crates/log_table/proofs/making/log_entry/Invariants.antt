@@ -1,10 +1,6 @@
 -- `log_entry` meets its contract: the loop keeps the exponent to which the squarings that are left lead. Assumes nothing.
-use Prim.Native.Nat.{ℕ, ◌/◌, ◌+◌}
-use mathlib.Core.Path.{ap, ◌∙◌}
-use native.Mathlib.Omega.{arith}
-use lib.Count.{count_leading_zeros}
 use Rattle.log_table.specs.Logs.{squares}
-use Rattle.log_table.proofs.Entries.{Left, left_start, left_small, left_step, left_end, Begun, begun}
+use Rattle.log_table.proofs.Entries.{Left}
 use Rattle.log_table.proofs.making.log_entry.Given as goal
 
 abbrev pub invariant-loop-n : goal.invariant-loop-n

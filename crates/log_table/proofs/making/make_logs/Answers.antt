@@ -2,7 +2,6 @@
 use native.Mathlib.Omega.{arith}
 use Rattle.rules.specs.Answers.{said_checked}
 use Rattle.log_table.proofs.Entries.{refused_none, refused_many, made}
-use borrow.Author.Rules.{rules}
 use Rattle.log_table.proofs.making.make_logs.Goals as goal
 
 pub returns-then-table-lt1 : goal.returns-then-table-lt1

@@ -1,7 +1,6 @@
 -- `next_entry` meets its contract: an even entry is that of the half and 2 ^ 24. Assumes nothing.
 use native.Mathlib.Omega.{arith}
 use Rattle.log_table.proofs.Entries.{even_is}
-use borrow.Author.Rules.{rules}
 use Rattle.log_table.proofs.making.next_entry.Goals as goal
 use Rattle.log_table.proofs.making.next_entry.Goals.{Start}
 

@@ -1,6 +1,5 @@
 -- `shifted_up` meets its contract: its branches are the two halves of a word. Assumes nothing.
 use Rattle.log_table.proofs.Entries.{low_is, high_is}
-use borrow.Author.Rules.{rules}
 use Rattle.log_table.proofs.making.shifted_up.Goals as goal
 
 pub returns-then-h-lt9223372036854775808 : goal.returns-then-h-lt9223372036854775808

@@ -2,7 +2,6 @@
 use mathlib.Core.Path.{ap, ◌∙◌}
 use Prim.Native.Nat.{ℕ, ◌+◌, ◌*◌}
 use Rattle.log_table.specs.Logs.{digit, raised}
-use borrow.Author.Rules.{rules}
 use Rattle.log_table.proofs.making.squared.Goals as goal
 
 pub returns : goal.returns

@@ -1,5 +1,4 @@
 -- `column_word` is 0 where the column is known to be empty, and else the row gathered.
-use borrow.Author.Rules.{rules}
 use Rattle.rings.proofs.columns.column_word.Goals as goal
 
 pub returns-then-empty : goal.returns-then-empty

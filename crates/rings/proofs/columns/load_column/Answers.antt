@@ -3,7 +3,6 @@ use mathlib.Core.Path.{◌≡◌}
 use Prim.Native.Nat.{◌*◌, ◌%◌, ◌^◌}
 use native.Mathlib.Omega.{arith}
 use native.Mathlib.Nat.{mod-eq_of_lt}
-use borrow.Author.Rules.{rules}
 use Rattle.rings.specs.RingLaws.{shape_pos}
 use Rattle.rings.specs.ColumnLaws.{col_code, col_end}
 use Rattle.rings.proofs.columns.load_column.Goals as goal

@@ -1,10 +1,6 @@
 -- `load_ring` loads one column after another, as many as the ring has; then the ring is a cache of the bitmap from column c on.
-use mathlib.Core.Path.{◌≡◌, refl, ◌∙◌}
-use Prim.Native.Nat.{◌-◌, ◌/◌, ◌^◌, ◌≤◌, ◌<◌}
+use mathlib.Core.Path.{refl, ◌∙◌}
 use native.Mathlib.Omega.{arith}
-use lib.ListN.{length}
-use borrow.Author.Rules.{rules}
-use Rattle.rings.specs.Columns.{Cached}
 use Rattle.rings.specs.CacheLaws.{cached_none, cached_more, cached_all, col_small}
 use Rattle.rings.proofs.columns.load_ring.Goals as goal
 use Rattle.rings.proofs.columns.load_ring.Goals.{Start}

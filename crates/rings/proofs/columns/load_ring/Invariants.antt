@@ -1,11 +1,8 @@
 -- `load_ring` loads one column after another, as many as the ring has; then the ring is a cache of the bitmap from column c on.
-use mathlib.Core.Path.{◌≡◌, refl, ◌∙◌}
-use Prim.Native.Nat.{◌-◌, ◌/◌, ◌^◌, ◌≤◌, ◌<◌}
-use native.Mathlib.Omega.{arith}
+use mathlib.Core.Path.{◌≡◌}
+use Prim.Native.Nat.{◌-◌, ◌≤◌}
 use lib.ListN.{length}
-use borrow.Author.Rules.{rules}
 use Rattle.rings.specs.Columns.{Cached}
-use Rattle.rings.specs.CacheLaws.{cached_none, cached_more, cached_all, col_small}
 use Rattle.rings.proofs.columns.load_ring.Given as goal
 
 abbrev pub invariant-loop-k : goal.invariant-loop-k

@@ -4,7 +4,6 @@ use Prim.Native.Nat.{ℕ, ◌*◌}
 use native.Mathlib.Omega.{arith}
 use lib.Dec.{eqb}
 use lib.ListN.{length}
-use borrow.Author.Rules.{rules}
 use Rattle.rings.specs.Columns.{none_used}
 use Rattle.rings.specs.ColumnLaws.{none_past, none_cut}
 use Rattle.rings.proofs.columns.none_used.Goals as goal

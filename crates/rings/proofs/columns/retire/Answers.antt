@@ -2,7 +2,6 @@
 use mathlib.Core.Path.{refl}
 use native.Mathlib.Omega.{arith}
 use lib.Pow.{shr_le}
-use borrow.Author.Rules.{rules}
 use Rattle.rings.specs.ColumnLaws.{column_lt, column_code, column_above}
 use Rattle.rings.specs.CacheLaws.{next_slot, caches_next}
 use Rattle.rings.proofs.columns.retire.Goals as goal

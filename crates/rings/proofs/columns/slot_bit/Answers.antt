@@ -1,7 +1,6 @@
 -- `slot_bit` gives the slot's bit, by its definition, or 0 past the bitmap's end.
 use mathlib.Core.Path.{refl, sym}
 use native.Mathlib.Omega.{arith}
-use borrow.Author.Rules.{rules}
 use Rattle.words.specs.Bit.{bit}
 use Rattle.words.specs.Map.{slot}
 use Rattle.words.specs.MapLaws.{slot_past}

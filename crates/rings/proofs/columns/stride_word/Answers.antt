@@ -1,10 +1,7 @@
 -- `stride_word` gathers 64 slots 2^t apart, one bit after the other.
 use mathlib.Core.Path.{◌≡◌, ap, ◌∙◌}
-use Prim.Native.Nat.{◌-◌, ◌≤◌}
 use native.Mathlib.Omega.{arith}
-use borrow.Author.Rules.{rules}
 use Rattle.words.specs.Map.{slot}
-use Rattle.rings.specs.Columns.{Strided}
 use Rattle.rings.specs.ColumnLaws.{strided_none, strided_more, row_lt, row_code}
 use Rattle.rings.proofs.columns.stride_word.Goals as goal
 use Rattle.rings.proofs.columns.stride_word.Goals.{Start}
@@ -17,12 +14,11 @@ overflow_add-p c =
     omega (arith, row_code c.args.t c.args.p c.loop-i.i c.requires.0 c.loop-i-test.true, row_lt c.args.t c.loop-i.i c.requires.0 c.loop-i-test.true)
 
 pub loop-i-preserved : goal.loop-i-preserved
-loop-i-preserved c =
-    (
-      omega arith,
-      strided_more c.loop-i.invariant.1 c.loop-i-test.true
-          (c.slot_bit.ensures ∙ ap (slot c.args.bitmap.now) (row_code c.args.t c.args.p c.loop-i.i c.requires.0 c.loop-i-test.true)),
-    )
+loop-i-preserved c = (
+  omega arith,
+  strided_more c.loop-i.invariant.1 c.loop-i-test.true
+      (c.slot_bit.ensures ∙ ap (slot c.args.bitmap.now) (row_code c.args.t c.args.p c.loop-i.i c.requires.0 c.loop-i-test.true)),
+)
 
 pub returns : goal.returns
 returns c =

@@ -1,6 +1,5 @@
 -- `begin_free` leaves the barred rotation alone: all words are 0 but the first, which has it as bit 0 where n = R.
 use native.Mathlib.Omega.{arith}
-use borrow.Author.Rules.{rules}
 use Rattle.rings.specs.BlockedLaws.{begun_empty, begun}
 use Rattle.rings.proofs.free.begin_free.Goals as goal
 use Rattle.rings.proofs.free.begin_free.Goals.{Start}

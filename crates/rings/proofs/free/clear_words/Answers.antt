@@ -1,9 +1,6 @@
 -- `clear_words` writes 0 to each of its words in turn; no other changes.
 use native.Mathlib.Omega.{arith}
-use borrow.Author.Rules.{rules}
-use Prim.Native.Nat.{◌≤◌, ◌-◌}
 use mathlib.Core.Path.{◌≡◌}
-use Rattle.rings.specs.Blocked.{Cleared}
 use Rattle.rings.specs.BlockedLaws.{cleared_none, cleared_more}
 use Rattle.rings.proofs.free.clear_words.Goals as goal
 

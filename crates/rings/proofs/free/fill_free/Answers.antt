@@ -1,10 +1,8 @@
 -- `fill_free` begins with the barred rotation, adds key after key to the words of all layouts, and turns the words over.
 use native.Mathlib.Omega.{arith}
-use borrow.Author.Rules.{rules}
-use Prim.Native.Nat.{◌-◌}
 use mathlib.Core.Path.{◌≡◌}
 use Rattle.rings.specs.BlockedLaws.{within_then}
-use Rattle.rings.specs.StreamLaws.{Keyed, keyed_none, keyed_more, keyed_all, layout_keys, few_words}
+use Rattle.rings.specs.StreamLaws.{keyed_none, keyed_more, keyed_all, layout_keys, few_words}
 use Rattle.rings.proofs.free.fill_free.Goals as goal
 use Rattle.rings.proofs.free.fill_free.Goals.{After-begin_free, After-finish_free, After-or_layouts, At-loop-i, In-loop-i, Start}
 

@@ -1,9 +1,7 @@
 -- `or_layouts` adds a key to layout after layout: the words stand above the keys and the ring, and each layout has its own.
 use native.Mathlib.Omega.{arith}
-use borrow.Author.Rules.{rules}
-use Prim.Native.Nat.{ℕ, ◌≤◌, ◌+◌, ◌-◌, ◌*◌}
+use Prim.Native.Nat.{ℕ, ◌+◌, ◌*◌}
 use mathlib.Core.Path.{◌≡◌}
-use Rattle.rings.specs.Stream.{LayoutsAdded}
 use Rattle.rings.specs.StreamLaws.{layouts_none, layouts_more, layouts_key, layout_end}
 use Rattle.rings.proofs.free.or_layouts.Goals as goal
 use Rattle.rings.proofs.free.or_layouts.Goals.{After-or_key, In-loop-r, Start}

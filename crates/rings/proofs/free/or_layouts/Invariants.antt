@@ -1,10 +1,6 @@
 -- `or_layouts` adds a key to layout after layout: the words stand above the keys and the ring, and each layout has its own.
-use native.Mathlib.Omega.{arith}
-use borrow.Author.Rules.{rules}
-use Prim.Native.Nat.{ℕ, ◌≤◌, ◌+◌, ◌-◌, ◌*◌}
-use mathlib.Core.Path.{◌≡◌}
+use Prim.Native.Nat.{◌≤◌, ◌+◌, ◌-◌}
 use Rattle.rings.specs.Stream.{LayoutsAdded}
-use Rattle.rings.specs.StreamLaws.{layouts_none, layouts_more, layouts_key, layout_end}
 use Rattle.rings.proofs.free.or_layouts.Given as goal
 
 abbrev pub invariant-loop-r : goal.invariant-loop-r

@@ -1,6 +1,5 @@
 -- `own_bits` gives the low n bits: 2^n - 1 below 64, and all bits of the word from there on.
 use native.Mathlib.Omega.{arith}
-use borrow.Author.Rules.{rules}
 use Rattle.words.specs.ShiftLaws.{one_shl_pos}
 use Rattle.rings.specs.BlockedLaws.{own_short, own_long}
 use Rattle.rings.proofs.free.own_bits.Goals as goal

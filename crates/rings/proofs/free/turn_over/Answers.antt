@@ -1,12 +1,10 @@
 -- `turn_over` makes each of its words the complement in turn, and counts the ones; no other changes.
 use native.Mathlib.Omega.{arith}
-use borrow.Author.Rules.{rules}
-use Prim.Native.Nat.{◌≤◌, ◌<◌, ◌+◌, ◌-◌, ◌^◌}
+use Prim.Native.Nat.{◌<◌, ◌+◌, ◌-◌, ◌^◌}
 use mathlib.Core.Path.{◌≡◌, refl}
 use lib.Bits.{bit_and, and_le_r}
 use lib.Count.{ones-le}
 use lib.ListN.{get_or}
-use Rattle.rings.specs.Blocked.{TurnedOver}
 use Rattle.rings.specs.BlockedLaws.{over_none, over_more}
 use Rattle.rings.proofs.free.turn_over.Goals as goal
 

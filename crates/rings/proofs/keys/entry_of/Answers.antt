@@ -3,7 +3,6 @@ use native.Mathlib.Omega.{arith}
 use native.Mathlib.Nat.{mod-le}
 use Prim.Native.Nat.{◌+◌, ◌-◌, ◌*◌, ◌%◌, ◌^◌}
 use lib.Bits.{and_le_r}
-use borrow.Author.Rules.{rules}
 use Rattle.rings.specs.RingLaws.{n_pos}
 use Rattle.rings.specs.KeyLaws.{entry_code, entry_small, turn_lt, mask_lt}
 use Rattle.rings.proofs.keys.entry_of.Goals as goal

@@ -1,6 +1,5 @@
 -- `key_row` gives a key's slots at 64 rotations: the ring from the place that the first of them takes.
 use native.Mathlib.Omega.{arith}
-use borrow.Author.Rules.{rules}
 use Rattle.rings.specs.KeyLaws.{key_row}
 use Rattle.rings.specs.RingLaws.{n_le}
 use Rattle.rings.proofs.keys.key_row.Goals as goal

@@ -1,6 +1,5 @@
 -- `key_row_64` gives a key's slots at all 64 rotations: the row of its ring, turned by the place that it takes at rotation 0.
 use native.Mathlib.Omega.{arith}
-use borrow.Author.Rules.{rules}
 use Rattle.rings.specs.KeyLaws.{key_row_64}
 use Rattle.rings.proofs.keys.key_row_64.Goals as goal
 use Rattle.rings.proofs.keys.key_row_64.Goals.{Start}

@@ -2,7 +2,6 @@
 use native.Mathlib.Omega.{arith}
 use Prim.Native.Nat.{◌%◌, ◌^◌}
 use lib.Pow.{shr_le}
-use borrow.Author.Rules.{rules}
 use Rattle.rings.specs.RingLaws.{n_pos}
 use Rattle.rings.specs.KeyLaws.{place_code}
 use Rattle.rings.proofs.keys.place_of.Goals as goal

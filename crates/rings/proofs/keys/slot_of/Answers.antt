@@ -1,6 +1,5 @@
 -- `slot_of` gives the slot: the entry, counted from start - 95.
 use native.Mathlib.Omega.{arith}
-use borrow.Author.Rules.{rules}
 use Rattle.rings.specs.KeyLaws.{entry_ge}
 use Rattle.rings.specs.Keys.{slot_at}
 use Rattle.rings.proofs.keys.slot_of.Goals as goal

@@ -1,5 +1,4 @@
 -- `take_slot` marks a slot that was free, and leaves the ring where it was not.
-use borrow.Author.Rules.{rules}
 use mathlib.Core.Path.{sym, ◌∙◌}
 use Rattle.rings.specs.MarkLaws.{ring_test_code, ring_mark_code, took_no, took_yes}
 use Rattle.rings.proofs.marks.take_slot.Goals as goal

@@ -1,5 +1,4 @@
 -- `unmark` clears the slot's bit of its word.
-use borrow.Author.Rules.{rules}
 use Rattle.rings.specs.MarkLaws.{ring_clear_code}
 use Rattle.rings.proofs.marks.unmark.Goals as goal
 use Rattle.rings.proofs.marks.unmark.Goals.{Start}

@@ -1,10 +1,8 @@
 -- `mark_bitmap` marks key after key in the bitmap.
 use mathlib.Core.Path.{◌≡◌}
-use Prim.Native.Nat.{◌-◌}
 use native.Mathlib.Omega.{arith}
 use lib.ListN.{length}
-use borrow.Author.Rules.{rules}
-use Rattle.rings.specs.PlaceLaws.{Mapping, mapping_none, mapping_more}
+use Rattle.rings.specs.PlaceLaws.{mapping_none, mapping_more}
 use Rattle.rings.proofs.place.mark_bitmap.Goals as goal
 use Rattle.rings.proofs.place.mark_bitmap.Goals.{Start}
 

@@ -1,10 +1,7 @@
 -- `mark_bitmap` marks key after key in the bitmap.
-use mathlib.Core.Path.{◌≡◌}
 use Prim.Native.Nat.{◌-◌}
-use native.Mathlib.Omega.{arith}
 use lib.ListN.{length}
-use borrow.Author.Rules.{rules}
-use Rattle.rings.specs.PlaceLaws.{Mapping, mapping_none, mapping_more}
+use Rattle.rings.specs.PlaceLaws.{Mapping}
 use Rattle.rings.proofs.place.mark_bitmap.Given as goal
 
 abbrev pub invariant-loop-i : goal.invariant-loop-i

@@ -1,9 +1,7 @@
 -- `mark_keys` marks key after key up to one whose slot is marked already; the keys lie above the ring, so no mark changes them.
 use borrow.Author.Tests.{not-true, not-false}
 use native.Mathlib.Omega.{arith}
-use borrow.Author.Rules.{rules}
-use Prim.Native.Nat.{◌-◌}
-use Rattle.rings.specs.PlaceLaws.{Marking, marking_none, marking_ok, marking_met, marking_more, marking_all}
+use Rattle.rings.specs.PlaceLaws.{marking_none, marking_ok, marking_met, marking_more, marking_all}
 use Rattle.rings.proofs.place.mark_keys.Goals as goal
 use Rattle.rings.proofs.place.mark_keys.Goals.{Start}
 

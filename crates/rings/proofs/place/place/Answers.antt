@@ -3,7 +3,6 @@ use native.Mathlib.Omega.{arith}
 use Prim.Native.Nat.{ℕ}
 use mathlib.Core.Path.{◌≡◌, ◌∙◌, ap}
 use mathlib.Core.List.{List}
-use borrow.Author.Rules.{rules}
 use Rattle.rings.specs.Parts.{part}
 use Rattle.rings.specs.Place.{unmarked_to}
 use Rattle.rings.specs.PlaceLaws.{placed_yes, placed_no, part_marked_to}

@@ -1,9 +1,6 @@
 -- `unmark_keys` unmarks from the last key to the first; the keys lie above the ring, so no mark changes them.
-use native.Mathlib.Omega.{arith}
-use borrow.Author.Rules.{rules}
-use mathlib.Core.Path.{◌≡◌, sym, ◌∙◌}
 use Rattle.rings.specs.Parts.{part}
-use Rattle.rings.specs.PlaceLaws.{Unmarking, unmarking_start, unmarking_ok, unmarking_more, unmarked_to_zero}
+use Rattle.rings.specs.PlaceLaws.{Unmarking}
 use Rattle.rings.proofs.place.unmark_keys.Given as goal
 
 abbrev pub invariant-loop-i : goal.invariant-loop-i

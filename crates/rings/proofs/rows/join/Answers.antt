@@ -1,5 +1,4 @@
 -- `join` gives the 64 bits from bit s of the pair on, by the law of the two shifts.
-use borrow.Author.Rules.{rules}
 use Rattle.words.specs.RowLaws.{funnel}
 use Rattle.rings.proofs.rows.join.Goals as goal
 

@@ -3,7 +3,6 @@ use native.Mathlib.Omega.{arith}
 use native.Mathlib.Nat.{mod-eq_of_lt}
 use mathlib.Core.Path.{◌≡◌}
 use Prim.Native.Nat.{◌%◌, ◌^◌}
-use borrow.Author.Rules.{rules}
 use Rattle.words.specs.ShiftLaws.{one_shl_pos, and_low}
 use Rattle.rings.proofs.rows.low_bits.Goals as goal
 use Rattle.rings.proofs.rows.low_bits.Goals.{Start}

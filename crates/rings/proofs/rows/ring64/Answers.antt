@@ -2,7 +2,6 @@
 use native.Mathlib.Omega.{arith}
 use mathlib.Core.Path.{ap}
 use Prim.Native.Nat.{ℕ, ◌+◌}
-use borrow.Author.Rules.{rules}
 use Rattle.rings.specs.RingLaws.{n_le, step_lt, step_code}
 use Rattle.rings.specs.RowLaws.{ring_short, ring_straight, ring_round}
 use Rattle.rings.proofs.rows.ring64.Goals as goal

@@ -1,5 +1,4 @@
 -- `turn` gives the low n bits turned by x; no shift is of 64, since n - x is taken mod 64.
-use borrow.Author.Rules.{rules}
 use Rattle.rings.specs.RowLaws.{turned}
 use Rattle.rings.proofs.rows.turn.Goals as goal
 

@@ -1,5 +1,4 @@
 -- `wrap` gives the low k bits of a under those of b.
-use borrow.Author.Rules.{rules}
 use Rattle.words.specs.ShiftLaws.{one_shl_pos}
 use Rattle.rings.specs.RowLaws.{wrapped}
 use Rattle.rings.proofs.rows.wrap.Goals as goal

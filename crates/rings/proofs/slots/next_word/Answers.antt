@@ -1,7 +1,6 @@
 -- `next_word` gives the word one column on: the mask is the remainder by the words, a power of two.
 use native.Mathlib.Omega.{arith}
 use native.Mathlib.Nat.{mod-lt}
-use borrow.Author.Rules.{rules}
 use Rattle.rings.specs.RingLaws.{stride_le, next_code, shape_pos}
 use Rattle.rings.proofs.slots.next_word.Goals as goal
 use Rattle.rings.proofs.slots.next_word.Goals.{Start}

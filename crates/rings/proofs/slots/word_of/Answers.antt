@@ -1,6 +1,5 @@
 -- `word_of` gives the slot's word: its shifts and masks are the division and the remainders of `word_of`, and nothing overflows since a column's number is at most the slot's.
 use native.Mathlib.Omega.{arith}
-use borrow.Author.Rules.{rules}
 use Rattle.words.specs.ShiftLaws.{one_shl_pos}
 use Rattle.rings.specs.RingLaws.{shape_pos, word_fits, word_code, word_lt}
 use Rattle.rings.proofs.slots.word_of.Goals as goal

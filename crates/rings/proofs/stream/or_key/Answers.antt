@@ -1,5 +1,4 @@
 -- `or_key` adds a key's slots: they are its ring from the place that the key takes at rotation 0.
-use borrow.Author.Rules.{rules}
 use Rattle.rings.specs.StreamLaws.{key_added}
 use Rattle.rings.proofs.stream.or_key.Goals as goal
 use Rattle.rings.proofs.stream.or_key.Goals.{After-or_ring, Start}

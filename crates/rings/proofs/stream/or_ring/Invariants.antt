@@ -1,10 +1,6 @@
 -- `or_ring` adds word after word: k is the ring's word with which the next begins, low is what the ring has there, and the word after it is read.
-use native.Mathlib.Omega.{arith}
-use borrow.Author.Rules.{rules}
 use Prim.Native.Nat.{◌≤◌, ◌-◌}
-use mathlib.Core.Path.{◌≡◌}
-use Rattle.rings.specs.RingLaws.{n_le}
-use Rattle.rings.specs.StreamLaws.{Streaming, stream_none, stream_more, next_lt}
+use Rattle.rings.specs.StreamLaws.{Streaming}
 use Rattle.rings.proofs.stream.or_ring.Given as goal
 
 abbrev pub invariant-loop-i : goal.invariant-loop-i

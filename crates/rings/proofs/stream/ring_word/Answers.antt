@@ -1,6 +1,5 @@
 -- `ring_word` gives word k of a ring: the words where its 64 places begin and go on, joined at the bit that the ring starts with.
 use native.Mathlib.Omega.{arith}
-use borrow.Author.Rules.{rules}
 use Rattle.rings.specs.RingLaws.{step_lt, step_code}
 use Rattle.rings.specs.StreamLaws.{on_code, ring_word}
 use Rattle.rings.proofs.stream.ring_word.Goals as goal

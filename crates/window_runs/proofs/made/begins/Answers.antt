@@ -1,7 +1,5 @@
-use Rattle.window_runs.proofs.Grown.{Grown, none_yet, one_more, all_there}
-use borrow.Author.Rules.{rules}
+use Rattle.window_runs.proofs.Grown.{none_yet, one_more, all_there}
 use native.Mathlib.Omega.{arith}
-use Prim.Native.Nat.{◌-◌}
 use Rattle.window_runs.proofs.made.begins.Goals as goal
 
 pub loop-b-init : goal.loop-b-init

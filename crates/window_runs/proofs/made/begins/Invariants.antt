@@ -1,6 +1,4 @@
-use Rattle.window_runs.proofs.Grown.{Grown, none_yet, one_more, all_there}
-use borrow.Author.Rules.{rules}
-use native.Mathlib.Omega.{arith}
+use Rattle.window_runs.proofs.Grown.{Grown}
 use Prim.Native.Nat.{◌-◌}
 use Rattle.window_runs.proofs.made.begins.Given as goal
 

@@ -1,12 +1,9 @@
 use Rattle.window_runs.proofs.Grown.{within_set, within_none}
-use Rattle.window.specs.Key.{Within}
 use Rattle.integers.specs.Ints.{small_fits}
 use mir.Facts.{to_z-of_z}
-use lib.ListN.{length, length-set}
-use borrow.Author.Rules.{rules}
+use lib.ListN.{length-set}
 use native.Mathlib.Omega.{arith}
-use Prim.Native.Nat.{◌-◌, ◌<◌}
-use mathlib.Core.Path.{◌≡◌, refl, ◌∙◌}
+use mathlib.Core.Path.{refl, ◌∙◌}
 use Rattle.window_runs.proofs.made.weights.Goals as goal
 
 pub loop-k-init : goal.loop-k-init

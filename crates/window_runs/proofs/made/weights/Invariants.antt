@@ -1,12 +1,7 @@
-use Rattle.window_runs.proofs.Grown.{within_set, within_none}
 use Rattle.window.specs.Key.{Within}
-use Rattle.integers.specs.Ints.{small_fits}
-use mir.Facts.{to_z-of_z}
-use lib.ListN.{length, length-set}
-use borrow.Author.Rules.{rules}
-use native.Mathlib.Omega.{arith}
+use lib.ListN.{length}
 use Prim.Native.Nat.{◌-◌, ◌<◌}
-use mathlib.Core.Path.{◌≡◌, refl, ◌∙◌}
+use mathlib.Core.Path.{◌≡◌}
 use Rattle.window_runs.proofs.made.weights.Given as goal
 
 abbrev pub invariant-loop-k : goal.invariant-loop-k

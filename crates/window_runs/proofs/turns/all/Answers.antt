@@ -1,8 +1,6 @@
 use Rattle.window.proofs.WindowLaws.{not_empty}
-use Rattle.window.specs.Window.{state, Waiting}
-use borrow.Author.Rules.{rules}
 use native.Mathlib.Omega.{arith}
-use Prim.Native.Nat.{◌+◌, ◌-◌}
+use Prim.Native.Nat.{◌+◌}
 use mathlib.Core.Path.{sym, ◌∙◌}
 use Rattle.window_runs.proofs.turns.all.Goals as goal
 

@@ -1,9 +1,5 @@
-use Rattle.window.proofs.WindowLaws.{not_empty}
 use Rattle.window.specs.Window.{state, Waiting}
-use borrow.Author.Rules.{rules}
-use native.Mathlib.Omega.{arith}
-use Prim.Native.Nat.{◌+◌, ◌-◌}
-use mathlib.Core.Path.{sym, ◌∙◌}
+use Prim.Native.Nat.{◌-◌}
 use Rattle.window_runs.proofs.turns.all.Given as goal
 
 abbrev pub invariant-loop-turn : goal.invariant-loop-turn

@@ -1,5 +1,4 @@
 use Rattle.window_runs.proofs.Begun.{begun}
-use borrow.Author.Rules.{rules}
 use Rattle.window_runs.proofs.turns.order.Goals as goal
 use Rattle.window_runs.proofs.turns.order.Goals.{Start}
 
