@@ -1,17 +1,14 @@
 use Rattle.sweep.proofs.PerformLaws.{many_buckets}
 use Rattle.sweep.specs.Performing.{Left}
-use Rattle.rules.specs.Good.{Passed}
 use Rattle.rules.specs.declared.SweepRecord.{SweepRecord}
-use Rattle.rules.specs.Order.{Input, input_of}
+use Rattle.rules.specs.Order.{input_of}
 use Rattle.sweep.proofs.PerformLaws.{words_room, regular, blank, cleared_long, cleared_all, left_done, left_stopped}
 use Rattle.sweep.proofs.CountLaws.{counted_all}
 use lib.Seq.{length-take-le}
-use lib.ListN.{length, take, drop, replicate, length-append}
-use mathlib.Core.List.{List}
-use Prim.Native.Nat.{ℕ, ◌≤◌}
+use lib.ListN.{length, drop, replicate, length-append}
+use Prim.Native.Nat.{ℕ}
 use native.Mathlib.Omega.{arith}
 use mathlib.Core.Path.{◌≡◌, refl, sym, ap, ◌∙◌, subst}
-use borrow.Author.Rules.{rules}
 use Rattle.sweep.proofs.perform.Goals as goal
 use Rattle.sweep.proofs.perform.Goals.{After-run-ended}
 

@@ -1,12 +1,10 @@
 use Rattle.sweep.proofs.CountLaws.{counted_as}
 use Rattle.sweep.proofs.CountLaws.{counts_at, counted_none, counted_zero, counted_placed, regular_grouped}
 use Rattle.sweep.specs.Counting.{Counted}
-use lib.ListN.{length, get_or}
-use Prim.Native.Nat.{ℕ, ◌+◌, ◌-◌, ◌*◌, ◌^◌, ◌<◌, ◌≤◌}
-use mathlib.Core.Logic.{⊎_elim}
-use mathlib.Core.Path.{◌≡◌, refl, sym, ap, ◌∙◌, subst}
+use lib.ListN.{length}
+use Prim.Native.Nat.{ℕ}
+use mathlib.Core.Path.{◌≡◌, subst}
 use native.Mathlib.Omega.{arith}
-use borrow.Author.Rules.{rules}
 use Rattle.sweep.proofs.counting.counted.Goals as goal
 use Rattle.sweep.proofs.counting.counted.Goals.{then-seeds-b-eq0, else-seeds-b-eq0}
 
@@ -33,14 +31,14 @@ loop-b-preserved c =
     let e = c.size_of-size.ensures.0 in
     let s = c.size_of-size.ensures.1 in
     elim c.if-seeds-b-eq0.branch [
-      then-seeds-b-eq0 w ↦ (
+      | then-seeds-b-eq0 w ↦ (
         omega arith,
         counted_as (counted_zero c.loop-b.invariant.1 e w.if-seeds-b-eq0.true) w.placed-is w.bumped-is w.zero-is,
         omega (arith, w.placed-is),
         omega (arith, w.bumped-is),
         omega (arith, w.zero-is),
       )
-    | else-seeds-b-eq0 w ↦ (
+      | else-seeds-b-eq0 w ↦ (
         omega arith,
         counted_as (counted_placed c.loop-b.invariant.1 e w.if-seeds-b-eq0.false) w.placed-is w.bumped-is w.zero-is,
         omega (arith, w.placed-is),
