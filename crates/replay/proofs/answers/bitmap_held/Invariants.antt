@@ -1,5 +1,5 @@
 -- Each word of a bitmap is compared: the index stays below its length.
-use Rattle.std.proofs.Common.{◌≡◌, ◌-◌, ◌≤◌, length, arith, rules}
+use Rattle.std.proofs.Common.{◌≡◌, ◌-◌, ◌≤◌, length}
 use Rattle.replay.proofs.answers.bitmap_held.Given as goal
 
 abbrev pub invariant-loop-w : goal.invariant-loop-w

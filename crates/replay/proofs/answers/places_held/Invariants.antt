@@ -1,5 +1,5 @@
 -- The loop takes as many turns as the Rust has holes; a place that is not there reads as 0.
-use Rattle.std.proofs.Common.{◌-◌, ◌≤◌, arith, rules}
+use Rattle.std.proofs.Common.{◌-◌, ◌≤◌}
 use Rattle.replay.proofs.answers.places_held.Given as goal
 
 abbrev pub invariant-loop-k : goal.invariant-loop-k

@@ -1,5 +1,5 @@
 -- Each seed is compared: the index stays below their length.
-use Rattle.std.proofs.Common.{◌≡◌, ◌-◌, ◌≤◌, length, arith, rules}
+use Rattle.std.proofs.Common.{◌≡◌, ◌-◌, ◌≤◌, length}
 use Rattle.replay.proofs.answers.seeds_held.Given as goal
 
 abbrev pub invariant-loop-b : goal.invariant-loop-b
