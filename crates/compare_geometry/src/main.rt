@@ -3,6 +3,7 @@
 // first slices; a count, and so many hashes with a seed, the bucket, the slice, the offset and the position. The file `stdin` is one case in
 // 101 of those with the fixed seed.
 #![tactic(auto)]
+
 ghost use Rattle.geometry.specs.Shape.{Made};
 
 use comparing::{Tally, held, number};

@@ -1,5 +1,6 @@
 // Runs the checks of settings and the bucket count at each of their limits and just beside.
 #![tactic(auto)]
+
 use rules::{Checked, Counted, Settings};
 
 fn number(n: u64) {

@@ -1,16 +1,16 @@
 -- The bucket that 29 names is the lowest at which a slot is met twice. Going through the buckets upward, what has been met counts no slot twice until the
 -- first bucket at which one is met again, and there that slot counts twice. Assumes nothing.
-use mathlib.Core.Path.{◌≡◌, refl, sym, ap, ◌∙◌, subst}
+use mathlib.Core.Path.{◌≡◌, ◌∙◌, subst}
 use mathlib.Core.Logic.{◌⊎◌, inl, inr}
-use mathlib.Core.Bool.{Bool, true, false, not, cond, ◌||◌}
-use mathlib.Core.List.{List, [], ◌∷◌, ◌++◌}
+use mathlib.Core.Bool.{Bool, true, false, not, cond}
+use mathlib.Core.List.{List, [], ◌∷◌}
 use Prim.Native.Nat.{ℕ, zero, suc, ◌+◌, ◌<◌, ◌≤◌}
 use native.Mathlib.Omega.{arith}
 use lib.Dec.{T, eqb, ltb, eqb_refl, ltb→lt}
-use Rattle.rules.specs.Lists.{below, count_from, elem, count, indicator, every, concat_map}
+use Rattle.rules.specs.Lists.{below, count_from, elem, count, every, concat_map}
 use Rattle.rules.specs.Order.{Input}
 use Rattle.rules.specs.Sweep.{bitmap_of}
-use Rattle.rules.specs.Answers.{Said, Answer, Refusal}
+use Rattle.rules.specs.Answers.{Answer, Refusal}
 use Rattle.rules.proofs.Tests.{split, is_true, is_false}
 use Rattle.rules.proofs.Counting.{Once, ind_true, elem_count, count_append}
 use Rattle.level_check.specs.Check.{good_seed, again, after, slots_at, placed_slots, lowest, same_words, level_answer}

@@ -1,5 +1,6 @@
 // The check of a finished level: seeds and bitmap, held to the settings and the grouped hashes that they were made from.
 #![tactic(auto)]
+
 ghost use Rattle.std.specs.Prelude.{◌≡◌, length, replicate};
 ghost use Rattle.rules.specs.Numbers.{bitmap_words};
 ghost use Rattle.geometry.specs.Shape.{Made};

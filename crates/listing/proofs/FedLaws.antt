@@ -66,14 +66,6 @@ fed_more bytes chunk s t ns after f e g = record {
 
 -- ---- the end
 
-pub was_false : (b : Bool) → not b ≡ true → b ≡ false
-was_false true e = sym e
-was_false false e = refl
-
-pub was_true : (b : Bool) → not b ≡ false → b ≡ true
-was_true true e = refl
-was_true false e = sym e
-
 module _ (scan : Scan) (numbers : List ℕ) where
   pub finished_by : (before after text : List ℕ) (r : ℕ) → r ≡ length text → after ≡ sets before 0 text → ((bytes : List ℕ) → FedBy bytes scan numbers → listing_of bytes ≡ text)
       → Finished scan numbers before after r

@@ -1,13 +1,6 @@
 -- The answer in each case of a lookup: a seed of 0, another seed, one of 1 to 6, 13, or none of them. Each follows by computing the definition at
 -- the number or the seed that is known. Assumes nothing.
-use mathlib.Core.Path.{◌≡◌, refl, sym, ap, ◌∙◌}
-use mathlib.Core.Logic.{◌≢◌}
-use mathlib.Core.Bool.{not}
-use mathlib.Core.List.{List, [], ◌∷◌}
-use Prim.Native.Nat.{ℕ, zero, suc}
-use native.Mathlib.Omega.{arith}
-use lib.Dec.{eqb}
-use lib.ListN.{length, get_or}
+use Rattle.std.proofs.Common.{◌≡◌, refl, sym, ap, ◌∙◌, ◌≢◌, not, List, [], ◌∷◌, ℕ, zero, suc, arith, eqb, length, get_or}
 use Rattle.rules.specs.declared.Settings.{Settings}
 use Rattle.rules.specs.declared.Looked.TheVariants.{Bumped, At, Refused}
 use Rattle.rules.specs.Geometry.{bucket_of, position}

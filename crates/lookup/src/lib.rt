@@ -1,5 +1,6 @@
 // Lookup of a hash: Bumped if its bucket's seed is 0, else its position (rule H).
 #![tactic(auto)]
+
 ghost use Rattle.std.specs.Prelude.{◌≡◌, length};
 ghost use Rattle.rules.specs.Holes.{looked_up};
 ghost use Rattle.rules.specs.Answers.{Answer, said_looked, lookup_answer};

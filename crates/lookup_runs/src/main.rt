@@ -1,6 +1,7 @@
 // Runs `lookup` at each refusal and just beside, in the order of the checks, and on the document's listing. One line a case: m, log2_slice_len,
 // ll, sb, B, the number of seeds, the hash; and the answer. `expected.py` makes the file `stdout`.
 #![tactic(auto)]
+
 use rules::{Looked, Settings};
 
 fn put(x: u64) {

@@ -2,6 +2,7 @@
 // answer, in house numbers), sweeps each case, and says how many numbers differ. Before each sweep the seeds, the bitmap and the
 // work hold rubbish. A case without room here is named, counted apart and not compared.
 #![tactic(auto)]
+
 mod answers;
 mod reading;
 mod rubbish;

@@ -1,16 +1,16 @@
 -- Ring and bitmap against the marked slots: a rotation of bucket b is free in the ring exactly where its candidate is unbarred and its slots are unmarked,
 -- and after its slots are marked in ring and bitmap, these stand for the marked slots with the new ones added. Assumes nothing.
-use Rattle.std.specs.Prelude.{◌≡◌, ◌≢◌, ◌⊎◌, Bool, true, false, not, ◌&&◌, List, [], ◌∷◌, ◌++◌, map, T, eqb, get_or}
+use Rattle.std.specs.Prelude.{◌≡◌, ◌≢◌, Bool, true, false, not, ◌&&◌, List, [], ◌∷◌, ◌++◌, map, T, eqb, get_or}
 use Rattle.std.proofs.Math.Path.{refl, sym}
 use Rattle.std.proofs.Common.{ap, ◌∙◌, arith, T_not, eqb→eq}
 use Rattle.std.proofs.Math.Logic.{⊎_elim}
-use Prim.Native.Nat.{ℕ, zero, suc, ◌+◌, ◌-◌, ◌*◌, ◌≤◌, ◌<◌}
+use Prim.Native.Nat.{ℕ, zero, suc, ◌*◌, ◌≤◌, ◌<◌}
 use Rattle.std.proofs.Math.Dec.{not_T}
 use Rattle.std.proofs.Math.ListN.{length}
 use Rattle.std.proofs.lemmas.List.{length-map}
 use Rattle.std.proofs.Math.Seq.{ext_get_or}
 use Rattle.words.specs.Cases.{same_or_not}
-use Rattle.words.specs.Map.{Words, slot, marked}
+use Rattle.words.specs.Map.{Words, slot}
 use Rattle.words.specs.MapLaws.{marked_same, marked_other, marked_words}
 use Rattle.rules.specs.Lists.{elem, indicator, all_free}
 use Rattle.rules.specs.Geometry.{layouts, ring_len, rotations, position}

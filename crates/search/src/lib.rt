@@ -8,6 +8,7 @@
 //   to + L count          the free words that are not 0, listed with their numbers: 2 L count; or the wrap points of one layout: count
 // All of it lies within W = slots / 32 + z (L + 2) + 3 L max(n, 64) + 2,560.
 #![tactic(auto)]
+
 ghost use Rattle.search.specs.Searching.{Searching, SeedFound};
 ghost use Rattle.search.specs.WorkMap.{Retrying, Retried};
 

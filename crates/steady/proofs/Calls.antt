@@ -15,8 +15,7 @@ use Rattle.rules.specs.Numbers.{lent_of}
 use Rattle.rules.specs.Answers.{unless, ran_answer, said_sweep, stops_at, sweep_number, sweep_answer, sweep_seeds, sweep_bitmap, sweep_work}
 use Rattle.rules.proofs.SaidLaws.{said_sweep_lem}
 use Rattle.sweep.specs.Performing.{Left}
-use Rattle.steady.specs.Alike.{DifferIn, Reordered}
-use Rattle.steady.specs.Steady.{is_answer, is_run, accepted, ran, SameLevel, EarlyStay, OrderFree, RefusedAlike}
+use Rattle.steady.specs.Steady.{is_answer, is_run, accepted, ran, EarlyStay, OrderFree, RefusedAlike}
 use Rattle.steady.proofs.EarlyPages.{differ_below, early_done}
 use Rattle.steady.proofs.Reordering.{reordered, reordered_accepted}
 

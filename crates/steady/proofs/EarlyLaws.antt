@@ -127,7 +127,7 @@ module _ (b : ℕ) (before before' : ℕ → ℕ → Bool) (agree : (x y : ℕ) 
   go_on : (f f' o : ℕ) (rest rest' : List ℕ) → length (o ∷ rest) ≤ suc f → length (o ∷ rest') ≤ suc f' → Ascending (o ∷ rest) → Ascending (o ∷ rest')
       → filter (under b) (o ∷ rest) ≡ filter (under b) (o ∷ rest') → o + 255 < b → Beginning f → Begun b (turns before (suc f) (o ∷ rest)) (turns before' (suc f') (o ∷ rest'))
   unfolding turns
-  go_on f f' o rest rest' k k' h h' e l ih = rw (sym alike) (push later)
+  go_on f f' o rest rest' k k' h h' e l ih = subst (λ (c : ℕ). Begun b (turns before (suc f) (o ∷ rest)) (c ∷ turns before' f' (remove c (o ∷ rest')))) alike (push later)
     where
       t : ℕ
       t = turn before o rest

@@ -1,6 +1,7 @@
 // Two sweeps side by side, with what a change of the keys leaves as it was: early pages stay put, and the order of the
 // keys inside a bucket is free.
 #![tactic(auto)]
+
 ghost use Rattle.rules.specs.Numbers.{lent_of};
 ghost use Rattle.rules.specs.Order.{input_of};
 ghost use Rattle.sweep.specs.Performing.{Left};

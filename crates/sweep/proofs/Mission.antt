@@ -1,7 +1,7 @@
 -- The mission's third demand, as laws about the public call. `sweep` leaves what `Left` says (its four promises); so where it answers with counts, all that
 -- `Swept` says holds of the seeds and the bitmap in the caller's hands, and where it answers 14 with a bucket, all that `Stopped` says of the turns up to it.
 -- Assumes nothing.
-use mathlib.Core.Path.{◌≡◌, refl, sym, ap, ◌∙◌, subst}
+use mathlib.Core.Path.{◌≡◌, refl, ◌∙◌}
 use mathlib.Core.Option.{Option, none, some}
 use mathlib.Core.List.{List, [], ◌∷◌}
 use Prim.Native.Nat.{ℕ, zero, suc}
@@ -14,7 +14,7 @@ use Rattle.rules.specs.declared.Outcome.TheVariants.{Done, Refused}
 use Rattle.rules.specs.Numbers.{lent_of, first_of, sweep_lines}
 use Rattle.rules.specs.Order.{Input, by_low_bits}
 use Rattle.rules.specs.Sweep.{final_seeds, final_bitmap}
-use Rattle.rules.specs.Answers.{Said, Answer, Refusal, said_sweep, said_outcome, named_by, unless, ran_answer, counts_of, count_values, sweep_turns, stops_at, sweep_number, sweep_answer}
+use Rattle.rules.specs.Answers.{Answer, Refusal, said_sweep, said_outcome, named_by, unless, ran_answer, counts_of, count_values, sweep_turns, stops_at, sweep_number, sweep_answer}
 use Rattle.rules.proofs.AnswerLaws as Laws
 use Rattle.rules.proofs.Theorems.{Swept, Stopped, swept_low, stopped}
 use Rattle.sweep.specs.Performing.{Left}

@@ -1,28 +1,23 @@
 -- A sweep whose checks have passed: it starts with blank buffers, and what it leaves is the answer's. Assumes nothing.
-use mathlib.Core.Path.{◌≡◌, refl, sym, ap, ap₂, ◌∙◌, subst}
-use mathlib.Core.Bool.{Bool, true, false, cond}
-use mathlib.Core.Option.{Option, none, some}
-use mathlib.Core.List.{List, [], ◌∷◌, ◌++◌, append-nil}
-use Prim.Native.Nat.{ℕ, suc, ◌+◌, ◌-◌, ◌*◌, ◌^◌, ◌<◌, ◌≤◌}
+use mathlib.Core.Path.{◌≡◌, refl, sym, ap, ◌∙◌, subst}
+use mathlib.Core.List.{List, [], ◌++◌, append-nil}
+use Prim.Native.Nat.{ℕ, ◌≤◌}
 use native.Mathlib.Omega.{arith}
-use lib.ListN.{length, get_or, take, drop, replicate, length-replicate, length-append, drop_of_length-le, length-drop}
+use lib.ListN.{length, take, drop, replicate, length-replicate, length-append, drop_of_length-le, length-drop}
 use lib.Seq.{take_at, drop_at}
 use mathlib.Core.Logic.{◌≢◌}
 use Rattle.rules.specs.Geometry.{work_words}
 use lib.IntN.{ℤ}
 use Rattle.rules.specs.declared.Settings.{Settings}
 use Rattle.rules.specs.declared.Counts.{Counts}
-use Rattle.rules.specs.declared.Named.{Named}
 use Rattle.rules.specs.declared.Named.TheVariants.{Bucket, NoBucket}
-use Rattle.rules.specs.declared.Outcome.{Outcome}
 use Rattle.rules.specs.declared.Outcome.TheVariants.{Done, Refused}
 use Rattle.rules.specs.declared.How.{How}
 use Rattle.rules.specs.declared.SweepRecord.{SweepRecord}
 use Rattle.rules.specs.Good.{Passed, Usable}
-use Rattle.rules.specs.Numbers.{Lent, lent_of, bitmap_words, largest}
+use Rattle.rules.specs.Numbers.{lent_of}
 use Rattle.rules.specs.Order.{Input, input_of, by_low_bits}
-use Rattle.rules.specs.Sweep.{final_seeds, final_bitmap, fails_at}
-use Rattle.rules.specs.Answers.{Said, Answer, Refusal, said_sweep, said_outcome, named_by, counts_of, count_values, sweep_turns, stops_at, sweep_number, work_needed}
+use Rattle.rules.specs.Answers.{Answer, Refusal, said_sweep, said_outcome, named_by, counts_of, count_values, stops_at, sweep_number, work_needed}
 use Rattle.rules.proofs.InputLaws.{passes}
 use Rattle.rules.proofs.CheckLaws.{good_usable}
 use Rattle.geometry.specs.Shape.{geometry_of}

@@ -1,19 +1,18 @@
 -- The ranges one after the other: the next range has no bucket that was taken, what was taken through it are the orders of one range more, and after the last
 -- they are the turns of the sweep. Assumes nothing.
-use mathlib.Core.Path.{◌≡◌, refl, sym, ap, ap₂, ◌∙◌, subst}
+use mathlib.Core.Path.{◌≡◌, refl, sym, ap, ◌∙◌, subst}
 use mathlib.Core.Bool.{Bool, true, false, cond}
-use mathlib.Core.Option.{Option, none, some}
+use mathlib.Core.Option.{none}
 use mathlib.Core.List.{List, [], ◌∷◌, ◌++◌, append-nil}
-use Prim.Native.Nat.{ℕ, zero, suc, ◌+◌, ◌-◌, ◌*◌, ◌<◌, ◌≤◌}
+use Prim.Native.Nat.{ℕ, suc, ◌+◌, ◌-◌, ◌*◌, ◌<◌, ◌≤◌}
 use native.Mathlib.Nat.{le_trans, mul-le-mul_left}
 use native.Mathlib.Omega.{arith}
-use lib.Dec.{T}
 use lib.IntN.{ℤ}
 use lib.ListN.{length, get_or, take, drop, take-append-drop}
 use lib.Seq.{take_all, take-suc}
 use Rattle.rules.specs.declared.How.{How}
 use Rattle.rules.specs.declared.Settings.{Settings}
-use Rattle.rules.specs.Lists.{elem, count}
+use Rattle.rules.specs.Lists.{count}
 use Rattle.rules.specs.Order.{Input, by_low_bits, order}
 use Rattle.rules.specs.Chunks.{Range, range, chunk_gap, chunk_count, ranges_of, ranges, order_in, orders_of}
 use Rattle.rules.specs.Sweep.{final_seeds, final_marks, final_bitmap, bitmap_of, fails_at}
@@ -22,7 +21,7 @@ use Rattle.rules.proofs.Counting.{count_append, elem_count}
 use Rattle.rules.proofs.BitmapLaws.{bitmap_is}
 use Rattle.rules.proofs.StopLaws.{fails_append}
 use Rattle.rules.proofs.PlacedLaws.{Proper}
-use Rattle.rules.proofs.ChunkLaws.{Covers, count_pos, count_room, inside_at, ranges_cover, orders_proper, orders_join}
+use Rattle.rules.proofs.ChunkLaws.{count_pos, count_room, inside_at, ranges_cover, orders_proper, orders_join}
 use Rattle.geometry.specs.declared.shape.Geometry.{Geometry}
 use Rattle.sweep.specs.declared.turning.Ended.{Ended}
 use Rattle.sweep.specs.declared.turning.Ended.TheVariants.{All, At}

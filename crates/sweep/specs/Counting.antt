@@ -1,5 +1,5 @@
 -- The counts of a finished sweep, told from begins and seeds alone. Assumes nothing.
-use Rattle.std.specs.Prelude.{◌≡◌, List, ℕ, ◌+◌, ◌*◌, ◌^◌, ◌≤◌, ◌<◌, length, get_or}
+use Rattle.std.specs.Prelude.{◌≡◌, List, ℕ, ◌+◌, ◌^◌, ◌≤◌, ◌<◌, length, get_or}
 use Rattle.rules.specs.declared.Counts.{Counts}
 use Rattle.rules.specs.Lists.{below, total}
 use Rattle.rules.specs.Order.{Input}

@@ -1,5 +1,5 @@
 -- A sweep whose checks have passed: what it asks, and what it leaves. Assumes nothing.
-use Rattle.std.specs.Prelude.{◌≡◌, List, ℕ, length}
+use Rattle.std.specs.Prelude.{◌≡◌, List, ℕ}
 use Rattle.rules.specs.declared.How.{How}
 use Rattle.rules.specs.declared.SweepRecord.{SweepRecord}
 use Rattle.rules.specs.Numbers.{lent_of, largest}

@@ -1,6 +1,7 @@
 // The sweep of one level: grouped hashes, settings, weights and a table in; one seed a bucket, the bitmap of taken slots
 // and the record out.
 #![tactic(auto)]
+
 ghost use Rattle.std.specs.Prelude.{◌≡◌, length};
 ghost use Rattle.rules.specs.Numbers.{lent_of};
 ghost use Rattle.rules.specs.Order.{by_low_bits, input_of};

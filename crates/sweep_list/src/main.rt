@@ -8,12 +8,12 @@ fn main() {
     // A proved loop has to end: no input takes this many reads.
     let mut turns = u64::MAX;
     while turns > 0 {
-        let got = libc::read(0, &mut buffer);
-        let n = io::count(got, &buffer);
-        if n == 0 {
+        let n = io::read_full(0, &mut buffer);
+        scan = list_input::feed(scan, &mut numbers, &buffer[..n]);
+        // Less than the buffer holds: the input ended.
+        if n < buffer.len() {
             break;
         }
-        scan = list_input::feed(scan, &mut numbers, &buffer[..n]);
         turns -= 1;
     }
     let mut out = io::large_buffer();

@@ -3,6 +3,7 @@
 // lent for writing afterwards, with what lies behind it. `expected.py` makes the file `stdout`. Over 67,108,864 hashes are left out: no local array
 // holds them.
 #![tactic(auto)]
+
 mod inputs;
 mod lending;
 mod numbers;

@@ -1,6 +1,5 @@
 -- Past the check the settings are usable, so that there is a geometry of them.
-use mathlib.Core.Path.{sym, ◌∙◌, subst}
-use borrow.Author.Rules.{rules}
+use Rattle.std.proofs.Common.{sym, ◌∙◌, subst}
 use Rattle.rules.specs.Good.{Usable}
 use Rattle.rules.proofs.CheckLaws.{passes_7, good_usable}
 use Rattle.geometry.specs.Shape.{Made}

@@ -1,6 +1,5 @@
 -- The loop takes as many turns as there are cases, and a case asks nothing.
-use Prim.Native.Nat.{◌≤◌, ◌-◌}
-use native.Mathlib.Omega.{arith}
+use Rattle.std.proofs.Common.{◌≤◌, ◌-◌}
 use Rattle.compare_geometry.proofs.cases.Given as goal
 
 abbrev pub invariant-loop-i : goal.invariant-loop-i

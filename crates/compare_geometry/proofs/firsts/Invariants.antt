@@ -1,6 +1,5 @@
 -- The loop takes as many turns as the number read, and each asks only for `Made g`.
-use Prim.Native.Nat.{◌≤◌, ◌-◌}
-use native.Mathlib.Omega.{arith}
+use Rattle.std.proofs.Common.{◌≤◌, ◌-◌}
 use Rattle.compare_geometry.proofs.firsts.Given as goal
 
 abbrev pub invariant-loop : goal.invariant-loop

@@ -9,7 +9,6 @@ use Rattle.geometry.specs.Shape.{Made}
 use Rattle.geometry.proofs.Sizes.{made}
 use lib.ListN.{length}
 use mathlib.Core.Path.{sym, ap, ◌∙◌, subst}
-use borrow.Author.Rules.{rules}
 use Rattle.level_check.proofs.check_level.Goals as goal
 
 pub returns-then-n-ne0 : goal.returns-then-n-ne0

@@ -2,7 +2,6 @@
 use lib.ListN.{length}
 use native.Mathlib.Omega.{arith}
 use Rattle.level_check.proofs.Judging.{blank, refill, says_28, says_29, says_30, says_accepted}
-use borrow.Author.Rules.{rules}
 use Rattle.level_check.proofs.judge.Goals as goal
 use Rattle.level_check.proofs.judge.Goals.{Start}
 

@@ -4,7 +4,7 @@ use lib.Seq.{length-take-le}
 use native.Mathlib.Omega.{arith}
 use mathlib.Core.Path.{◌≡◌, refl, sym, ap, ◌∙◌}
 use Rattle.rules.specs.Answers.{named_by}
-use Rattle.listing.proofs.FedLaws.{was_false, was_true, finished_by, unformed_text, many_text, kept_text, kept_well}
+use Rattle.listing.proofs.FedLaws.{finished_by, unformed_text, many_text, kept_text, kept_well}
 use borrow.Author.Rules.{rules}
 use Rattle.listing.proofs.finish.Goals as goal
 
@@ -14,8 +14,8 @@ returns-then-not-scan_ends c =
     let a = c.args in
     let p = c.refused_text.ensures in
     record {
-      finished = finished_by a.scan a.numbers.now a.out.now _ _ _ p.0.0 p.1 (unformed_text a.scan a.numbers.now (sym c.scan_ends.ensures ∙ was_false c.scan_ends.result c.if-not-scan_ends.true-raw));
-      upper_bound = omega (arith, p.0.1);
+      finished = finished_by a.scan a.numbers.now a.out.now _ _ _ p.value.0 p.out_after (unformed_text a.scan a.numbers.now (sym c.scan_ends.ensures ∙ c.if-not-scan_ends.true));
+      upper_bound = omega (arith, p.value.1);
     }
 
 pub returns-then-count-gt205 : goal.returns-then-count-gt205
@@ -24,8 +24,8 @@ returns-then-count-gt205 c =
     let a = c.args in
     let p = c.refused_text-then-count-gt205.ensures in
     record {
-      finished = finished_by a.scan a.numbers.now a.out.now _ _ _ p.0.0 p.1 (many_text a.scan a.numbers.now (sym c.scan_ends.ensures ∙ was_true c.scan_ends.result c.if-not-scan_ends.false-raw) c.if-count-gt205.true);
-      upper_bound = omega (arith, p.0.1);
+      finished = finished_by a.scan a.numbers.now a.out.now _ _ _ p.value.0 p.out_after (many_text a.scan a.numbers.now (sym c.scan_ends.ensures ∙ c.if-not-scan_ends.false) c.if-count-gt205.true);
+      upper_bound = omega (arith, p.value.1);
     }
 
 pub slice_bounds-asked-end : goal.slice_bounds-asked-end
@@ -35,7 +35,7 @@ pub asked-requires : goal.asked-requires
 asked-requires c =
     let a = c.args in
     record {
-      ns_value = kept_well a.scan a.numbers.now (sym c.scan_ends.ensures ∙ was_true c.scan_ends.result c.if-not-scan_ends.false-raw) c.if-count-gt205.false _ c.requires.fed.by;
+      ns_value = kept_well a.scan a.numbers.now (sym c.scan_ends.ensures ∙ c.if-not-scan_ends.false) c.if-count-gt205.false _ c.requires.fed.by;
       in_bounds = c.requires.in_bounds;
     }
 
@@ -44,6 +44,6 @@ returns c =
     let a = c.args in
     let p = c.asked.ensures in
     record {
-      finished = finished_by a.scan a.numbers.now a.out.now _ _ _ p.0.0 p.1 (kept_text a.scan a.numbers.now (sym c.scan_ends.ensures ∙ was_true c.scan_ends.result c.if-not-scan_ends.false-raw) c.if-count-gt205.false);
-      upper_bound = p.0.1;
+      finished = finished_by a.scan a.numbers.now a.out.now _ _ _ p.value.0 p.out_after (kept_text a.scan a.numbers.now (sym c.scan_ends.ensures ∙ c.if-not-scan_ends.false) c.if-count-gt205.false);
+      upper_bound = p.value.1;
     }

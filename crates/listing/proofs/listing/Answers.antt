@@ -11,9 +11,9 @@ use Rattle.listing.proofs.listing.Goals as goal
 use Rattle.listing.proofs.listing.Goals.{After-feed-scan}
 
 -- all the bytes were fed
-module _ (d : tie.After-feed) where
-  fed : FedBy d.before.before.before.before.before.before.args.bytes.now d.feed.result d.feed.new.1.0
-  fed = fed_more [] _ d.before.before.start.result _ _ _ (fed_none _ _ d.before.before.start.ensures refl) d.feed.ensures.0 d.feed.ensures.1
+fed : (d : goal.After-feed-scan) → FedBy d.args.bytes.now d.feed-scan.result d.feed-scan.new.numbers
+fed d = fed_more [] _ d.start.result _ _ _ (fed_none _ _ d.start.ensures refl) d.feed-scan.ensures.value d.feed-scan.ensures.numbers_after
+
 pub returns-then-out-lt32768 : goal.returns-then-out-lt32768
 returns-then-out-lt32768 c = record { count = λ h. absurd (omega (arith, c.if-out-lt32768.true)); text = λ h. absurd (omega (arith, c.if-out-lt32768.true)); none = λ h. refl; kept = λ h. refl }
 

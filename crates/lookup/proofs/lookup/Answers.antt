@@ -1,6 +1,5 @@
 -- Both ways give the answer; which one is taken is what the test of the default settings says. Assumes nothing.
-use mathlib.Core.Path.{sym, ◌∙◌}
-use borrow.Author.Rules.{rules}
+use Rattle.std.proofs.Common.{sym, ◌∙◌}
 use Rattle.lookup.proofs.lookup.Goals as goal
 
 pub lookup_by-requires : goal.lookup_by-requires

@@ -1,8 +1,5 @@
 -- Each return is one case of the answer; past the checks the settings are usable and the seeds B long, which `lookup_in` asks.
-use mathlib.Core.Path.{◌≡◌, sym, ap, ◌∙◌, subst}
-use Prim.Native.Nat.{ℕ}
-use lib.ListN.{length}
-use borrow.Author.Rules.{rules}
+use Rattle.std.proofs.Common.{◌≡◌, sym, ap, ◌∙◌, subst, length}
 use Rattle.rules.specs.Good.{Usable}
 use Rattle.rules.specs.Numbers.{first_of, lines_to6}
 use Rattle.rules.specs.Holes.{looked_up}
@@ -17,14 +14,16 @@ use Rattle.geometry.proofs.Sizes.{made}
 use Rattle.geometry.proofs.UsualLaws.{usual_of}
 use Rattle.lookup.proofs.Cases.{refused, refused_13, answered}
 use Rattle.lookup.proofs.lookup_by.Goals as goal
-use Rattle.lookup.proofs.lookup_by.Goals.{After-geometry_of-g, After-number_to_6-n, Else-n-ne0}
+use Rattle.lookup.proofs.lookup_by.Goals.{After-geometry_of-g, Else-n-ne0}
 
 -- none of 1 to 6 applies
-module _ (c : tie.Else1) where
-  none : first_of (lines_to6 c.before.before.before.args.settings) ≡ 0
-  none = sym c.before.number-to-6.ensures.0 ∙ c.if1.false
-  usable : Usable c.before.before.before.args.settings
-  usable = passes_6 c.before.before.before.args.settings none
+none : (c : goal.Else-n-ne0) → first_of (lines_to6 c.args.settings) ≡ 0
+none c = sym c.number_to_6-n.ensures.0 ∙ c.if-n-ne0.false
+
+usable : (c : goal.Else-n-ne0) → Usable c.args.settings
+usable c = passes_6 c.args.settings (none c)
+
+-- the geometry is that of the settings
 settings_are : (g : Geometry) (s : Settings) → g ≡ geometry_of s → g.settings ≡ s
 unfolding geometry_of
 settings_are g s e = ap (λ (x : Geometry). x.settings) e
@@ -41,20 +40,27 @@ returns-then-seeds-buckets c =
 
 pub geometry_of-g-requires : goal.geometry_of-g-requires
 geometry_of-g-requires c = usable (goal.at.geometry_of-g-requires c).Else-n-ne0
-module _ (c : tie.After-geometry-of) where
+
+-- past the checks: the geometry is made, the seeds are B long, and what is looked up is the answer
+module _ (c : goal.After-geometry_of-g) where
+  usable_after : Usable c.args.settings
+  usable_after = passes_6 c.args.settings (sym c.number_to_6-n.ensures.0 ∙ c.if-n-ne0.false)
+
   is_made : Made c.geometry_of-g.result
-  is_made = subst Made (sym c.geometry_of-g.ensures) (made c.args.settings (usable (goal.at.geometry_of-g-requires c).After-number_to_6-n))
+  is_made = subst Made (sym c.geometry_of-g.ensures) (made c.args.settings usable_after)
+
   same_settings : c.geometry_of-g.result.settings ≡ c.args.settings
   same_settings = settings_are c.geometry_of-g.result c.args.settings c.geometry_of-g.ensures
+
   long : length c.args.seeds.now ≡ c.geometry_of-g.result.settings.buckets
   long = c.if-seeds-buckets.false ∙ ap (λ (x : Settings). x.buckets) (sym same_settings)
+
   answer : Answer (looked_up c.geometry_of-g.result.settings c.args.seeds.now c.args.hash) ≡ lookup_answer c.args.settings c.args.seeds.now c.args.hash
   answer =
       let a = c.args in
       ap (λ (x : Settings). Answer (looked_up x a.seeds.now a.hash)) same_settings
-      ∙ answered a.settings a.seeds.now a.hash (usable (goal.at.geometry_of-g-requires c).After-number_to_6-n) c.if-seeds-buckets.false
+      ∙ answered a.settings a.seeds.now a.hash usable_after c.if-seeds-buckets.false
 
--- past the checks: the geometry is made, the seeds are B long, and what is looked up is the answer
 -- the tests of the default settings tell the shape
 pub literal-requires : goal.literal-requires
 literal-requires c =

@@ -1,8 +1,5 @@
 -- The seed read is that of the hash's bucket, and the answer goes by it.
-use mathlib.Core.Path.{sym, ap, ◌∙◌}
-use Prim.Native.Nat.{ℕ}
-use lib.ListN.{get_or}
-use borrow.Author.Rules.{rules}
+use Rattle.std.proofs.Common.{sym, ap, ◌∙◌, ℕ, get_or}
 use Rattle.lookup.proofs.Cases.{bumped, found}
 use Rattle.lookup.proofs.lookup_in.Goals as goal
 

@@ -1,5 +1,5 @@
 -- The loop takes as many turns as there are cases, and a case keeps all lengths.
-use Rattle.std.proofs.Common.{◌≡◌, ◌-◌, ◌≤◌, length, arith}
+use Rattle.std.proofs.Common.{◌≡◌, ◌-◌, ◌≤◌, length}
 use Rattle.replay.proofs.cases.Given as goal
 
 abbrev pub invariant-loop-i : goal.invariant-loop-i

@@ -1,9 +1,7 @@
 -- The ring keys and free words are filled in and the best free rotation is looked for; where it is placed its seed is the bucket's, and where two keys meet
 -- the pass over all free rotations goes on from the same words. Assumes nothing.
 use mathlib.Core.Path.{◌∙◌}
-use Prim.Native.Nat.{◌-◌}
 use native.Mathlib.Omega.{arith}
-use borrow.Author.Rules.{rules}
 use Rattle.rings.specs.RingLaws.{n_le}
 use Rattle.search.specs.LaidLaws.{laid_rows, laid_settling, best_in, best_blank, best_zero, best_placed}
 use Rattle.search.specs.ReadyLaws.{ready_shape, bucket_in, layouts_few, layouts_room, map_fits, code_preparing, code_looking, code_laid, searched_since}
@@ -24,7 +22,7 @@ pub overflow_mul-mid : goal.overflow_mul-mid
 overflow_mul-mid c = let q = c.requires.ready in omega (arith, layouts_room q c.first-start.ensures.0 c.free_words-count.ensures)
 
 pub overflow_add-mid : goal.overflow_add-mid
-overflow_add-mid c = let q = c.requires.ready in omega (arith, map_fits q c.free_words-count.result c.free_words-count.ensures, c.well_formed.1.1.1.1.1.1.1.0.0)
+overflow_add-mid c = let q = c.requires.ready in omega (arith, map_fits q c.free_words-count.result c.free_words-count.ensures)
 
 pub overflow_add-to : goal.overflow_add-to
 overflow_add-to c = let q = c.requires.ready in omega (arith, layouts_few q)
@@ -33,7 +31,7 @@ pub overflow_mul-to : goal.overflow_mul-to
 overflow_mul-to c = let q = c.requires.ready in omega (arith, layouts_room q c.first-start.ensures.0 c.free_words-count.ensures, q.most)
 
 pub overflow_add-to-2 : goal.overflow_add-to-2
-overflow_add-to-2 c = let q = c.requires.ready in omega (arith, map_fits q c.free_words-count.result c.free_words-count.ensures, c.well_formed.1.1.1.1.1.1.1.0.0)
+overflow_add-to-2 c = let q = c.requires.ready in omega (arith, map_fits q c.free_words-count.result c.free_words-count.ensures)
 
 pub prepare-total-requires : goal.prepare-total-requires
 prepare-total-requires c = code_preparing c.requires.ready c.first-start.ensures.0 c.free_words-count.ensures
@@ -57,14 +55,14 @@ overflow_mul-a c = let q = c.requires.ready in
     let k = c.prepare-total.ensures in
     let l = c.best_free-best.ensures in
     let d = code_laid q c.first-start.ensures.0 c.free_words-count.ensures k l in
-    omega (arith, ((laid_rows d.laid).keys _ (best_in d.laid d.is c.if-best.false).0).room, d.len, c.well_formed.1.1.1.1.1.1.1.0.0)
+    omega (arith, ((laid_rows d.laid).keys _ (best_in d.laid d.is c.if-best.false).0).room, d.len)
 
 pub overflow_add-a : goal.overflow_add-a
 overflow_add-a c = let q = c.requires.ready in
     let k = c.prepare-total.ensures in
     let l = c.best_free-best.ensures in
     let d = code_laid q c.first-start.ensures.0 c.free_words-count.ensures k l in
-    omega (arith, ((laid_rows d.laid).keys _ (best_in d.laid d.is c.if-best.false).0).room, d.len, c.well_formed.1.1.1.1.1.1.1.0.0)
+    omega (arith, ((laid_rows d.laid).keys _ (best_in d.laid d.is c.if-best.false).0).room, d.len)
 
 pub settle-requires : goal.settle-requires
 settle-requires c =

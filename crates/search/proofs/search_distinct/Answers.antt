@@ -1,12 +1,9 @@
 -- Sorting leaves the ring, the ring keys and the free words; then the pass finds the best rotation at which no two keys meet, and places it.
 -- Assumes nothing.
-use Prim.Native.Nat.{◌-◌}
 use native.Mathlib.Omega.{arith}
-use borrow.Author.Rules.{rules}
 use Rattle.rings.specs.RingLaws.{n_le}
 use Rattle.search.specs.LaidLaws.{laid_aside_put, laid_sorted, laid_rows, laid_settling, laid_few, laid_twins, apart_in, apart_blank, apart_zero, apart_placed}
 use Rattle.search.proofs.search_distinct.Goals as goal
-use Rattle.search.proofs.search_distinct.Goals.{Start}
 
 pub returns-then-has_equal : goal.returns-then-has_equal
 returns-then-has_equal c = λ i marked first b d. laid_twins (laid_sorted d c.has_equal.new.work c.has_equal.auto.work) c.args.work.now (laid_aside_put d c.has_equal.new.work c.has_equal.auto.work).len c.has_equal.ensures.answer c.if-has_equal.true
@@ -21,17 +18,17 @@ returns-then-best c = λ i marked first b d. let f = c.best_distinct-best.ensure
 pub overflow_mul-a : goal.overflow_mul-a
 overflow_mul-a c = let d = laid_sorted c.requires.laid c.has_equal.new.work c.has_equal.auto.work in
     let k = (laid_rows d).keys c.best_distinct-best.result.r (apart_in d c.best_distinct-best.ensures.0 c.if-best.false).0 in
-    omega (arith, k.room, (laid_aside_put c.requires.laid c.has_equal.new.work c.has_equal.auto.work).len, c.well_formed.1.1.1.1.1.1.1.1.1.1.0.0)
+    omega (arith, k.room, (laid_aside_put c.requires.laid c.has_equal.new.work c.has_equal.auto.work).len)
 
 pub overflow_add-a : goal.overflow_add-a
 overflow_add-a c = let d = laid_sorted c.requires.laid c.has_equal.new.work c.has_equal.auto.work in
     let k = (laid_rows d).keys c.best_distinct-best.result.r (apart_in d c.best_distinct-best.ensures.0 c.if-best.false).0 in
-    omega (arith, k.room, (laid_aside_put c.requires.laid c.has_equal.new.work c.has_equal.auto.work).len, c.well_formed.1.1.1.1.1.1.1.1.1.1.0.0)
+    omega (arith, k.room, (laid_aside_put c.requires.laid c.has_equal.new.work c.has_equal.auto.work).len)
 
 pub settle-requires : goal.settle-requires
 settle-requires c = let d = laid_sorted c.requires.laid c.has_equal.new.work c.has_equal.auto.work in
     let l = apart_in d c.best_distinct-best.ensures.0 c.if-best.false in
-    rw c.best_distinct-best.ensures.1 (laid_settling d c.best_distinct-best.result.r c.best_distinct-best.result.j l.0 l.1, apart_blank d c.best_distinct-best.ensures.0 c.if-best.false)
+    rw c.best_distinct-best.ensures.1 (record { settling = laid_settling d c.best_distinct-best.result.r c.best_distinct-best.result.j l.0 l.1; blank = apart_blank d c.best_distinct-best.ensures.0 c.if-best.false })
 
 pub seed_of-requires : goal.seed_of-requires
 seed_of-requires c = let d = laid_sorted c.requires.laid c.has_equal.new.work c.has_equal.auto.work in

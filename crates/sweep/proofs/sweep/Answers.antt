@@ -1,9 +1,8 @@
 use Rattle.sweep.proofs.PerformLaws.{left_refused, usable, performing, left_by}
 use Rattle.sweep.specs.Performing.{Left}
 use Rattle.rules.specs.declared.SweepRecord.{SweepRecord}
-use Rattle.rules.specs.Order.{Input, input_of}
-use mathlib.Core.Path.{◌≡◌, refl, sym, ap, ◌∙◌, subst}
-use borrow.Author.Rules.{rules}
+use Rattle.rules.specs.Order.{input_of}
+use mathlib.Core.Path.{sym, subst}
 use Rattle.sweep.proofs.sweep.Goals as goal
 
 pub returns-then-number-ne0 : goal.returns-then-number-ne0

@@ -12,6 +12,7 @@ use lib.ListN.{length}
 use lib.Seq.{length-take-le}
 use borrow.Author.Rules.{rules}
 use Rattle.sweep_list.proofs.main.Goals as goal
+use Rattle.sweep_list.proofs.main.Goals.{else-loop-turns-test, then-loop-turns-test+then-n-lt65536}
 
 -- a chunk more was fed
 fed_on : (chunk : List ℕ) (s t : Scan) (ns after : List ℕ) → Fed s ns → t ≡ fed_scan s chunk → after ≡ fed_numbers s ns chunk → Fed t after
@@ -24,15 +25,15 @@ pub slice_bounds-feed-end : goal.slice_bounds-feed-end
 slice_bounds-feed-end c = sym (length-take-le _ _ (search rules))
 
 pub loop-turns-preserved : goal.loop-turns-preserved
-loop-turns-preserved c = (fed_on _ _ _ _ _ c.loop-turns.invariant.0 c.feed-scan.ensures.value c.feed-scan.ensures.numbers_after, c.read-got.auto.buf ∙ c.loop-turns.invariant.1)
-
-pub slice_bounds-finish-end : goal.slice_bounds-finish-end
-slice_bounds-finish-end c = sym c.loop-turns.invariant.0.by.size
+loop-turns-preserved c = (fed_on _ _ _ _ _ c.loop-turns.invariant.0 c.feed-scan.ensures.value c.feed-scan.ensures.numbers_after, c.read_full-n.auto.buf ∙ c.loop-turns.invariant.1)
 
 pub finish-end-requires : goal.finish-end-requires
 finish-end-requires c =
     record {
-      fed = c.loop-turns.invariant.0;
+      fed = elim c.loop-turns-test.branch [
+          else-loop-turns-test w ↦ rw (w.scan-is, w.numbers-is) c.loop-turns.invariant.0
+        | then-loop-turns-test+then-n-lt65536 w ↦ rw (w.scan-is, w.numbers-is) (fed_on _ _ _ _ _ c.loop-turns.invariant.0 w.feed-scan.ensures.value w.feed-scan.ensures.numbers_after)
+      ];
       in_bounds = omega (arith, c.large_buffer-out.ensures);
     }
 

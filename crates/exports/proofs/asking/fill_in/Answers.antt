@@ -1,11 +1,7 @@
 -- After i turns the first i slots are written, and what is written next is the slot of hash i.
-use borrow.Author.Rules.{rules}
-use mathlib.Core.Path.{◌≡◌, ap, ◌∙◌}
-use mathlib.Core.List.{List, map}
-use Prim.Native.Nat.{ℕ, ◌-◌, ◌≤◌}
+use mathlib.Core.Path.{ap, ◌∙◌}
 use native.Mathlib.Omega.{arith}
-use lib.ListN.{length, set}
-use lib.Seq.{paste}
+use lib.ListN.{length}
 use Rattle.exports.specs.Positions.{slot_of}
 use Rattle.exports.proofs.Fill.{filled_length, filled_more, filled_all}
 use Rattle.exports.proofs.asking.fill_in.Goals as goal

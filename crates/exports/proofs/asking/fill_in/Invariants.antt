@@ -1,13 +1,10 @@
 -- After i turns the first i slots are written, and what is written next is the slot of hash i.
-use borrow.Author.Rules.{rules}
-use mathlib.Core.Path.{◌≡◌, ap, ◌∙◌}
-use mathlib.Core.List.{List, map}
-use Prim.Native.Nat.{ℕ, ◌-◌, ◌≤◌}
-use native.Mathlib.Omega.{arith}
-use lib.ListN.{length, set}
+use mathlib.Core.Path.{◌≡◌}
+use mathlib.Core.List.{map}
+use Prim.Native.Nat.{◌-◌, ◌≤◌}
+use lib.ListN.{length}
 use lib.Seq.{paste}
 use Rattle.exports.specs.Positions.{slot_of}
-use Rattle.exports.proofs.Fill.{filled_length, filled_more, filled_all}
 use Rattle.exports.proofs.asking.fill_in.Given as goal
 
 abbrev pub invariant-loop-i : goal.invariant-loop-i

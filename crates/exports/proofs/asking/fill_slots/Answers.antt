@@ -1,8 +1,6 @@
 -- The literals are the geometry's own numbers, so both ways write the same slots. Assumes nothing.
 use mathlib.Core.Path.{sym, subst, ap, ◌∙◌}
-use mathlib.Core.List.{List, map}
-use Prim.Native.Nat.{ℕ}
-use borrow.Author.Rules.{rules}
+use mathlib.Core.List.{map}
 use Rattle.rules.proofs.Tests.{of_true}
 use Rattle.geometry.specs.declared.shape.Geometry.{Geometry}
 use Rattle.geometry.specs.Shape.{Made}
@@ -22,9 +20,9 @@ fill_in-requires c =
     let e = c.literal.ensures in
     let p = c.requires in
     record {
-      made = subst Made (sym e) p.0;
-      seeds_len = p.1.0 ∙ ap (λ (g : Geometry). g.settings.buckets) (sym e);
-      slots_len = p.1.1;
+      made = subst Made (sym e) p.made;
+      seeds_len = p.seeds_len ∙ ap (λ (g : Geometry). g.settings.buckets) (sym e);
+      slots_len = p.slots_len;
     }
 
 pub returns-then-usual : goal.returns-then-usual

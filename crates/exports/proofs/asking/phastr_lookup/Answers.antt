@@ -1,5 +1,4 @@
 -- Each arm tells what `lookup` says of its variant, and `lookup` says the answer.
-use borrow.Author.Rules.{rules}
 use mathlib.Core.Path.{refl}
 use Rattle.rules.specs.Answers.{said_looked}
 use Rattle.exports.specs.Told.{number_told, slot_told, slot_or}

@@ -1,8 +1,7 @@
 -- Each return is one case of the lines 1 to 6 and 13; past them the settings are usable, the seeds B long and the slots as many as the hashes, which the
 -- lookups ask.
-use borrow.Author.Rules.{rules}
 use mathlib.Core.Path.{◌≡◌, sym, ap, ◌∙◌, subst}
-use mathlib.Core.Bool.{Bool, not}
+use mathlib.Core.Bool.{not}
 use mathlib.Core.List.{List, map}
 use Prim.Native.Nat.{ℕ}
 use native.Mathlib.Omega.{arith}
@@ -60,7 +59,7 @@ geometry_of-requires c = usable (goal.at.geometry_of-requires c).Else-n-ne0
 
 pub fill_slots-requires : goal.fill_slots-requires
 fill_slots-requires c =
-    let s = settings (goal.at.fill_slots-requires c).Start in
+    let s = settings_of c.args.m c.args.log2_slice_len c.args.ll c.args.sb c.args.buckets in
     record {
       made = subst Made (sym c.geometry_of.ensures) (made s (usable (goal.at.fill_slots-requires c).Else-n-ne0));
       seeds_len = c.if-seeds-buckets.false ∙ ap (λ (x : Settings). x.buckets) (sym (settings_are c.geometry_of.result s c.geometry_of.ensures));

@@ -1,5 +1,4 @@
 -- Each arm tells what is said of its variant.
-use borrow.Author.Rules.{rules}
 use mathlib.Core.Path.{refl}
 use Rattle.rules.specs.Answers.{named_by}
 use Rattle.level_check.specs.Check.{said_matched}
@@ -12,8 +11,8 @@ returns-in-Accepted c = rw c.in-Accepted.is (record { answer = refl; named = ref
 
 pub returns-in-Bucket : goal.returns-in-Bucket
 unfolding said_matched named_by number_told bucket_told
-returns-in-Bucket c = rw c.in-Bucket.is (record { answer = refl; named = refl })
+returns-in-Bucket c = rw (c.in-Refused.is, c.in-Bucket.is) (record { answer = refl; named = refl })
 
 pub returns-in-NoBucket : goal.returns-in-NoBucket
 unfolding said_matched named_by number_told bucket_told
-returns-in-NoBucket c = rw c.in-NoBucket.is (record { answer = refl; named = refl })
+returns-in-NoBucket c = rw (c.in-Refused.is, c.in-NoBucket.is) (record { answer = refl; named = refl })

@@ -1,17 +1,16 @@
 -- Each arm tells what `read_file` says of its variant; a refusal leaves six zeroes.
-use mathlib.Core.Path.{sym, ap, ◌∙◌}
+use mathlib.Core.Path.{ap}
 use lib.ListN.{replicate}
 use Rattle.rules.specs.Answers.{Said}
 use Rattle.level_file.specs.Format.{settings_numbers}
 use Rattle.level_file.specs.Answer.{said_read, read_values}
 use Rattle.exports.specs.Told.{number_told, values_told}
-use borrow.Author.Rules.{rules}
 use Rattle.exports.proofs.files.phastr_level_read.Goals as goal
 
 pub returns-in-Level : goal.returns-in-Level
 unfolding said_read read_values settings_numbers number_told values_told
 returns-in-Level c =
-    let said = sym (ap said_read c.s-1.given.1) ∙ c.read_file.ensures.answer in
+    let said = c.in-Level.ensures.answer in
     record {
       answer = ap number_told said;
       given = c.read_file.ensures.first;
@@ -22,7 +21,7 @@ returns-in-Level c =
 pub returns-in-Refused : goal.returns-in-Refused
 unfolding said_read read_values settings_numbers number_told values_told
 returns-in-Refused c =
-    let said = sym (ap said_read c.number-1.given.1) ∙ c.read_file.ensures.answer in
+    let said = c.in-Refused.ensures.answer in
     record {
       answer = ap number_told said;
       given = c.read_file.ensures.first;

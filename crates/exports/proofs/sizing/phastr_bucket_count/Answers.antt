@@ -1,5 +1,4 @@
 -- Each arm tells what `bucket_count` says of its variant, and `bucket_count` says the answer.
-use borrow.Author.Rules.{rules}
 use mathlib.Core.Path.{refl}
 use Rattle.rules.specs.Answers.{said_counted}
 use Rattle.exports.specs.Told.{number_told, value_told}

@@ -1,6 +1,5 @@
 -- Each arm tells what `make_logs` says of its variant, and `make_logs` says the answer and leaves the table.
-use borrow.Author.Rules.{rules}
-use mathlib.Core.Path.{sym, ap, ◌∙◌}
+use mathlib.Core.Path.{ap}
 use Rattle.rules.specs.Answers.{said_checked}
 use Rattle.exports.specs.Told.{number_told}
 use Rattle.exports.proofs.sizing.phastr_log_table.Goals as goal
@@ -10,8 +9,8 @@ unfolding said_checked number_told
 returns-in-Fine c =
     let call = c.make_logs.ensures in
     record {
-      answer = ap number_told (sym (ap said_checked c.enum_told-1.given.1) ∙ call.0);
-      buffer = call.1;
+      answer = ap number_told c.in-Fine.ensures.answer;
+      buffer = call.buffer;
     }
 
 pub returns-in-Refused : goal.returns-in-Refused
@@ -19,6 +18,6 @@ unfolding said_checked number_told
 returns-in-Refused c =
     let call = c.make_logs.ensures in
     record {
-      answer = ap number_told (sym (ap said_checked c.number-1.given.1) ∙ call.0);
-      buffer = call.1;
+      answer = ap number_told c.in-Refused.ensures.answer;
+      buffer = call.buffer;
     }

@@ -1,5 +1,4 @@
 -- Each return is one case of the lines 1 to 7 and 10; past 1 to 7 the settings are good, which the geometry and W ask.
-use borrow.Author.Rules.{rules}
 use mathlib.Core.Path.{◌≡◌, sym, ap, ap₂, ◌∙◌, subst}
 use mathlib.Core.List.{List, [], ◌∷◌}
 use Prim.Native.Nat.{ℕ}

@@ -1,6 +1,5 @@
 -- Each arm tells what `holes` says of its variant, and `holes` says the answer and leaves the buffer.
-use borrow.Author.Rules.{rules}
-use mathlib.Core.Path.{sym, ap, ◌∙◌}
+use mathlib.Core.Path.{ap}
 use Rattle.rules.specs.Answers.{Said, said_listed}
 use Rattle.exports.specs.Told.{number_told, value_told}
 use Rattle.exports.proofs.sweeping.phastr_holes.Goals as goal
@@ -8,7 +7,7 @@ use Rattle.exports.proofs.sweeping.phastr_holes.Goals as goal
 pub returns-in-Holes : goal.returns-in-Holes
 unfolding said_listed number_told value_told
 returns-in-Holes c =
-    let said = sym (ap said_listed c.n-1.given.1) ∙ c.holes.ensures.answer in
+    let said = c.in-Holes.ensures.answer in
     record {
       answer = ap number_told said;
       buffer = c.holes.ensures.buffer;
@@ -18,7 +17,7 @@ returns-in-Holes c =
 pub returns-in-Refused : goal.returns-in-Refused
 unfolding said_listed number_told value_told
 returns-in-Refused c =
-    let said = sym (ap said_listed c.number-1.given.1) ∙ c.holes.ensures.answer in
+    let said = c.in-Refused.ensures.answer in
     record {
       answer = ap number_told said;
       buffer = c.holes.ensures.buffer;

@@ -1,5 +1,4 @@
 -- The sweep's contract says what is left in the buffers, and what `tell` is told.
-use borrow.Author.Rules.{rules}
 use Rattle.rules.specs.Answers.{said_sweep}
 use Rattle.exports.proofs.sweeping.phastr_sweep.Goals as goal
 

@@ -6,7 +6,6 @@ use Rattle.geometry.specs.Shape.{Made}
 use Rattle.geometry.proofs.Sizes.{made}
 use mathlib.Core.Bool.{true, false}
 use mathlib.Core.Path.{sym, ◌∙◌, subst}
-use borrow.Author.Rules.{rules}
 use Rattle.level_check.proofs.first.first_number.Goals as goal
 
 pub returns-then-n-ne0 : goal.returns-then-n-ne0

@@ -1,6 +1,5 @@
 -- The first number of `group_lines`, test after test.
 use Rattle.level_check.proofs.Numbering.{is_9, is_10, is_11, is_none, rises, begun}
-use borrow.Author.Rules.{rules}
 use Rattle.level_check.proofs.first.group_number.Goals as goal
 
 pub returns-then-begins_bad : goal.returns-then-begins_bad

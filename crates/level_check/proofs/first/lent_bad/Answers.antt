@@ -1,7 +1,6 @@
 -- Each test of a length is the definition's.
 use borrow.Author.Tests.{eq-eqb, ne_eqb}
 use mathlib.Core.Path.{refl}
-use borrow.Author.Rules.{rules}
 use Rattle.level_check.proofs.first.lent_bad.Goals as goal
 
 pub returns-then-seeds-s : goal.returns-then-seeds-s

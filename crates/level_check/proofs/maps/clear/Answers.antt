@@ -1,11 +1,10 @@
 -- With i words done the slice is i zeros and the rest as it was.
-use lib.ListN.{length, replicate, drop, set, length-set, drop_of_length-le}
-use Prim.Native.Nat.{ℕ, ◌-◌, ◌≤◌}
+use lib.ListN.{length, replicate, set, length-set, drop_of_length-le}
+use Prim.Native.Nat.{ℕ}
 use mathlib.Core.List.{List, ◌++◌, append-nil}
 use mathlib.Core.Path.{◌≡◌, refl, ap, ◌∙◌}
 use native.Mathlib.Omega.{arith}
 use borrow.Author.Fill.{fill_none, fill_more}
-use borrow.Author.Rules.{rules}
 use Rattle.level_check.proofs.maps.clear.Goals as goal
 
 pub loop-i-init : goal.loop-i-init

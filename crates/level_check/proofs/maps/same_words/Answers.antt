@@ -1,11 +1,7 @@
 -- Two lists are alike exactly where their first k words are and what is left is.
 use Rattle.level_check.proofs.Words.{same_next, same_fails, same_ends}
-use Rattle.level_check.specs.Check.{same_words}
-use lib.ListN.{length, drop}
-use Prim.Native.Nat.{◌-◌, ◌≤◌}
-use mathlib.Core.Path.{◌≡◌, refl}
+use mathlib.Core.Path.{refl}
 use native.Mathlib.Omega.{arith}
-use borrow.Author.Rules.{rules}
 use Rattle.level_check.proofs.maps.same_words.Goals as goal
 
 pub loop-k-init : goal.loop-k-init

@@ -1,11 +1,8 @@
 -- Two lists are alike exactly where their first k words are and what is left is.
-use Rattle.level_check.proofs.Words.{same_next, same_fails, same_ends}
 use Rattle.level_check.specs.Check.{same_words}
 use lib.ListN.{length, drop}
 use Prim.Native.Nat.{◌-◌, ◌≤◌}
-use mathlib.Core.Path.{◌≡◌, refl}
-use native.Mathlib.Omega.{arith}
-use borrow.Author.Rules.{rules}
+use mathlib.Core.Path.{◌≡◌}
 use Rattle.level_check.proofs.maps.same_words.Given as goal
 
 abbrev pub invariant-loop-k : goal.invariant-loop-k

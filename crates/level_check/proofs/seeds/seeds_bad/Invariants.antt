@@ -1,14 +1,9 @@
 -- The seeds before b are good, and one that is not ends the pass.
-use Rattle.level_check.proofs.Numbering.{seed_good, seed_bad_lem, none_bad, one_bad}
 use Rattle.level_check.specs.Walk.{seed_at}
-use Rattle.checks.proofs.Stray.{begun_grouped}
 use lib.ListN.{length}
 use Prim.Native.Nat.{ℕ, ◌-◌, ◌<◌, ◌≤◌}
 use mathlib.Core.Bool.{true}
 use mathlib.Core.Path.{◌≡◌}
-use native.Mathlib.Omega.{arith}
-use borrow.Author.Count.{below_more}
-use borrow.Author.Rules.{rules}
 use Rattle.level_check.proofs.seeds.seeds_bad.Given as goal
 
 abbrev pub invariant-loop-b : goal.invariant-loop-b

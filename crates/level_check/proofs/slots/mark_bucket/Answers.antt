@@ -1,7 +1,6 @@
 -- A seed of 0 has no slots, and any other its keys' positions.
 use Rattle.level_check.proofs.Walking.{met_none, met_as, slots_some}
 use mathlib.Core.Path.{refl}
-use borrow.Author.Rules.{rules}
 use Rattle.level_check.proofs.slots.mark_bucket.Goals as goal
 
 pub returns-then-seed-eq0 : goal.returns-then-seed-eq0

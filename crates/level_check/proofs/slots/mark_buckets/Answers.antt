@@ -1,12 +1,8 @@
 -- The scratch marks what the buckets before b have met (`Walking`), so the first bucket at which a slot is met again is the lowest.
-use Rattle.level_check.proofs.Walking.{Walking, start, next, hit, done, met_bucket}
-use Rattle.level_check.specs.Check.{level_of}
+use Rattle.level_check.proofs.Walking.{start, next, hit, done, met_bucket}
 use Rattle.checks.proofs.Stray.{begun_grouped}
-use lib.ListN.{length}
-use Prim.Native.Nat.{◌-◌, ◌≤◌}
-use mathlib.Core.Path.{◌≡◌, refl, ◌∙◌}
+use mathlib.Core.Path.{refl, ◌∙◌}
 use native.Mathlib.Omega.{arith}
-use borrow.Author.Rules.{rules}
 use Rattle.level_check.proofs.slots.mark_buckets.Goals as goal
 
 pub loop-b-init : goal.loop-b-init

@@ -1,12 +1,9 @@
 -- The scratch marks what the buckets before b have met (`Walking`), so the first bucket at which a slot is met again is the lowest.
-use Rattle.level_check.proofs.Walking.{Walking, start, next, hit, done, met_bucket}
+use Rattle.level_check.proofs.Walking.{Walking}
 use Rattle.level_check.specs.Check.{level_of}
-use Rattle.checks.proofs.Stray.{begun_grouped}
 use lib.ListN.{length}
 use Prim.Native.Nat.{◌-◌, ◌≤◌}
-use mathlib.Core.Path.{◌≡◌, refl, ◌∙◌}
-use native.Mathlib.Omega.{arith}
-use borrow.Author.Rules.{rules}
+use mathlib.Core.Path.{◌≡◌}
 use Rattle.level_check.proofs.slots.mark_buckets.Given as goal
 
 abbrev pub invariant-loop-b : goal.invariant-loop-b

@@ -1,11 +1,7 @@
 -- The scratch marks what has been met (`Marking`), so a bit that is set is a slot that is met again.
-use Rattle.level_check.proofs.Marking.{Marking, start, next, hit, done}
-use Rattle.rules.specs.Geometry as G
-use lib.ListN.{length}
-use Prim.Native.Nat.{◌-◌, ◌≤◌}
+use Rattle.level_check.proofs.Marking.{start, next, hit, done}
 use mathlib.Core.Path.{sym, ◌∙◌}
 use native.Mathlib.Omega.{arith}
-use borrow.Author.Rules.{rules}
 use Rattle.level_check.proofs.slots.mark_keys.Goals as goal
 
 pub loop-k-init : goal.loop-k-init

@@ -1,11 +1,8 @@
 -- The scratch marks what has been met (`Marking`), so a bit that is set is a slot that is met again.
-use Rattle.level_check.proofs.Marking.{Marking, start, next, hit, done}
+use Rattle.level_check.proofs.Marking.{Marking}
 use Rattle.rules.specs.Geometry as G
 use lib.ListN.{length}
 use Prim.Native.Nat.{◌-◌, ◌≤◌}
-use mathlib.Core.Path.{sym, ◌∙◌}
-use native.Mathlib.Omega.{arith}
-use borrow.Author.Rules.{rules}
 use Rattle.level_check.proofs.slots.mark_keys.Given as goal
 
 abbrev pub invariant-loop-k : goal.invariant-loop-k

@@ -16,14 +16,40 @@ use borrow.Author.Rules.{rules}
 use Rattle.listing.proofs.printing.asked.Goals as goal
 use Rattle.listing.proofs.printing.asked.Goals.{After-settings_of-settings}
 
+-- past the test of size, the settings taken
+module _ (d : goal.After-settings_of-settings) where
+  small : over_size d.args.ns.now ≡ false
+  small = sym d.over_size.ensures ∙ d.if-over_size.false
+
+  few : d.settings_of-settings.result.buckets ≤ 64
+  few = few_buckets _ d.requires.ns_value small _ d.settings_of-settings.ensures
+
+  room : length d.split-keys.new.begins ≡ 65
+  room = sets_long _ (replicate 65 0) (begins_of d.args.ns.now) 65 d.split-keys.ensures.begins_after refl
+
+  hash_room : length d.split-keys.new.hashes ≡ 128
+  hash_room = sets_long _ (replicate 128 0) (hashes_of d.args.ns.now) 128 d.split-keys.ensures.hashes_after refl
+
+  begun : take (d.settings_of-settings.result.buckets + 1) d.split-keys.new.begins ≡ begins_of d.args.ns.now
+  begun =
+      let ns = d.args.ns.now in
+      let well = d.requires.ns_value in
+      front_is (begins_of ns) _ _ _ d.split-keys.ensures.begins_after (begins_most ns well small) (ends_are ns well small _ d.settings_of-settings.ensures)
+
+  hashed : take d.split-keys.result d.split-keys.new.hashes ≡ hashes_of d.args.ns.now
+  hashed =
+      let ns = d.args.ns.now in
+      let well = d.requires.ns_value in
+      front_is (hashes_of ns) _ _ _ d.split-keys.ensures.hashes_after (keys_most ns well small) d.split-keys.ensures.value.0
+
 pub returns-then-over_size : goal.returns-then-over_size
 unfolding named_by
 returns-then-over_size c =
     let p = c.refused_text.ensures in
     let e = sym (asked_over c.args.ns.now (sym c.over_size.ensures ∙ c.if-over_size.true)) in
     record {
-      value = (p.0.0 ∙ ap length e, omega (arith, p.0.1));
-      out_after = p.1 ∙ ap (sets c.args.out.now 0) e;
+      value = (p.value.0 ∙ ap length e, omega (arith, p.value.1));
+      out_after = p.out_after ∙ ap (sets c.args.out.now 0) e;
     }
 
 pub split-keys-requires : goal.split-keys-requires
@@ -37,10 +63,10 @@ pub settings_of-settings-requires : goal.settings_of-settings-requires
 settings_of-settings-requires c = long_enough _ c.requires.ns_value
 
 pub overflow_add-ends : goal.overflow_add-ends
-overflow_add-ends c = omega (arith, few c)
+overflow_add-ends c = omega (arith, few (goal.at.overflow_add-ends c).After-settings_of-settings)
 
 pub slice_bounds-begins-end : goal.slice_bounds-begins-end
-slice_bounds-begins-end c = omega (arith, few c, room c)
+slice_bounds-begins-end c = omega (arith, few (goal.at.slice_bounds-begins-end c).After-settings_of-settings, room (goal.at.slice_bounds-begins-end c).After-settings_of-settings)
 
 pub slice_bounds-over_work-end : goal.slice_bounds-over_work-end
 slice_bounds-over_work-end c = sym (length-take-le _ _ (omega (arith, few (goal.at.slice_bounds-over_work-end c).After-settings_of-settings, room (goal.at.slice_bounds-over_work-end c).After-settings_of-settings)))
@@ -59,8 +85,8 @@ returns-then-over_work c =
     let p = c.refused_text-then-over_work.ensures in
     let e = sym (text_over c.args.ns.now c.requires.ns_value (small (goal.at.returns-then-over_work c).After-settings_of-settings) _ c.settings_of-settings.ensures _ (begun (goal.at.returns-then-over_work c).After-settings_of-settings) _ c.over_work.ensures c.if-over_work.true) in
     record {
-      value = (p.0.0 ∙ ap length e, omega (arith, p.0.1));
-      out_after = p.1 ∙ ap (sets c.args.out.now 0) e;
+      value = (p.value.0 ∙ ap length e, omega (arith, p.value.1));
+      out_after = p.out_after ∙ ap (sets c.args.out.now 0) e;
     }
 
 pub weights_of-requires : goal.weights_of-requires
@@ -96,6 +122,6 @@ returns c =
     let p = c.swept_alone.ensures in
     let e = sym (text_swept c.args.ns.now c.requires.ns_value (small (goal.at.returns c).After-settings_of-settings) _ c.settings_of-settings.ensures _ (begun (goal.at.returns c).After-settings_of-settings) _ c.over_work.ensures c.if-over_work.false _ _ _ c.weights_of.ensures c.bump_of.ensures (hashed (goal.at.returns c).After-settings_of-settings)) in
     record {
-      value = (p.0.0 ∙ ap length e, p.0.1);
-      out_after = p.1 ∙ ap (sets c.args.out.now 0) e;
+      value = (p.value.0 ∙ ap length e, p.value.1);
+      out_after = p.out_after ∙ ap (sets c.args.out.now 0) e;
     }

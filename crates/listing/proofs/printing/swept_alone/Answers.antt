@@ -22,9 +22,9 @@ pub swept-requires : goal.swept-requires
 swept-requires c =
     let p = c.requires in
     record {
-      m_bound = p.0;
-      seeds_len = (length-take-le _ _ (omega (arith, p.0)), length-take-le _ _ (omega (arith, p.0)), refl);
-      by_index = p.1;
+      m_bound = p.m_bound;
+      seeds_len = (length-take-le _ _ (omega (arith, p.m_bound)), length-take-le _ _ (omega (arith, p.m_bound)), refl);
+      by_index = p.by_index;
     }
 
 pub returns : goal.returns
@@ -33,6 +33,6 @@ returns c =
     let p = c.swept.ensures in
     let e = ap (λ (t : List ℕ). swept_text a.bump (input_of a.settings a.weights a.hashes.now a.begins.now t)) c.house-table.ensures.0 in
     record {
-      value = (p.0.0 ∙ ap length e, p.0.1);
-      out_after = p.1 ∙ ap (sets a.out.now 0) e;
+      value = (p.value.0 ∙ ap length e, p.value.1);
+      out_after = p.out_after ∙ ap (sets a.out.now 0) e;
     }

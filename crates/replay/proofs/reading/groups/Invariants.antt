@@ -1,5 +1,5 @@
 -- The loop takes as many turns as there are buckets, and each keeps both lengths.
-use Rattle.std.proofs.Common.{◌≡◌, ◌-◌, ◌≤◌, length, arith}
+use Rattle.std.proofs.Common.{◌≡◌, ◌-◌, ◌≤◌, length}
 use Rattle.replay.proofs.reading.groups.Given as goal
 
 abbrev pub invariant-loop-b : goal.invariant-loop-b

@@ -1,5 +1,5 @@
 -- At most ten bytes are read, and a byte asks nothing.
-use Rattle.std.proofs.Common.{◌-◌, ◌≤◌, arith, rules}
+use Rattle.std.proofs.Common.{◌-◌, ◌≤◌}
 use Rattle.replay.proofs.reading.number.Given as goal
 
 abbrev pub invariant-loop : goal.invariant-loop

@@ -1,5 +1,5 @@
 -- The loop takes as many turns as the number read.
-use Rattle.std.proofs.Common.{◌-◌, ◌≤◌, arith}
+use Rattle.std.proofs.Common.{◌-◌, ◌≤◌}
 use Rattle.replay.proofs.reading.skip.Given as goal
 
 abbrev pub invariant-loop : goal.invariant-loop

@@ -1,5 +1,5 @@
 -- The loop takes as many turns as the number read, and a store keeps the length.
-use Rattle.std.proofs.Common.{◌≡◌, ◌-◌, ◌≤◌, length, arith}
+use Rattle.std.proofs.Common.{◌≡◌, ◌-◌, ◌≤◌, length}
 use Rattle.replay.proofs.reading.table.Given as goal
 
 abbrev pub invariant-loop-i : goal.invariant-loop-i

@@ -1,5 +1,5 @@
 -- Each word is written: the index stays below the length, which a store keeps.
-use Rattle.std.proofs.Common.{◌≡◌, ◌-◌, ◌≤◌, length, refl, ◌∙◌, arith, length-set}
+use Rattle.std.proofs.Common.{◌≡◌, ◌-◌, ◌≤◌, length}
 use Rattle.replay.proofs.rubbish.in_words.Given as goal
 
 abbrev pub invariant-loop-i : goal.invariant-loop-i

@@ -1,5 +1,5 @@
 -- Each word is read: the index stays below the length.
-use Rattle.std.proofs.Common.{◌≡◌, ◌-◌, ◌≤◌, length, arith}
+use Rattle.std.proofs.Common.{◌≡◌, ◌-◌, ◌≤◌, length}
 use Rattle.replay.proofs.rubbish.worked.Given as goal
 
 abbrev pub invariant-loop-i : goal.invariant-loop-i

@@ -1,14 +1,11 @@
 -- `fill_keys` fills hash after hash: hash i's keys go to word i of each layout's part.
-use Prim.Native.Nat.{◌-◌}
 use native.Mathlib.Omega.{arith}
 use native.Mathlib.Nat.{mul-le-mul_right}
 use lib.ListN.{length, get_or}
-use borrow.Author.Rules.{rules}
 use Rattle.rules.proofs.GeometryLaws.{layouts_pos}
 use Rattle.ring_keys.specs.HashLaws.{start_le}
-use Rattle.ring_keys.specs.FillLaws.{KeysTo, keys_none, keys_more, keys_all}
+use Rattle.ring_keys.specs.FillLaws.{keys_none, keys_more, keys_all}
 use Rattle.ring_keys.proofs.fill.fill_keys.Goals as goal
-use Rattle.ring_keys.proofs.fill.fill_keys.Goals.{Start}
 
 pub loop-i-init : goal.loop-i-init
 loop-i-init c = keys_none _ _ _ _ _

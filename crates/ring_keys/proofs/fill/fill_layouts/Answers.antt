@@ -4,11 +4,10 @@ use Prim.Native.Nat.{ℕ, ◌+◌, ◌-◌, ◌<◌}
 use native.Mathlib.Omega.{arith}
 use native.Mathlib.Nat.{div-le_self}
 use lib.ListN.{length}
-use borrow.Author.Rules.{rules}
 use Rattle.rules.specs.Geometry as G
 use Rattle.geometry.proofs.Sizes.{Sized, sized}
 use Rattle.ring_keys.specs.RingKey.{ring_key}
-use Rattle.ring_keys.specs.FillLaws.{Layering, layering_none, layering_in, layering_step, layering_more, key_code, layouts_are, bits_are, shift_small}
+use Rattle.ring_keys.specs.FillLaws.{layering_none, layering_in, layering_step, layering_more, key_code, layouts_are, bits_are, shift_small}
 use Rattle.ring_keys.proofs.fill.fill_layouts.Goals as goal
 use Rattle.ring_keys.proofs.fill.fill_layouts.Goals.{After-pack, Start}
 

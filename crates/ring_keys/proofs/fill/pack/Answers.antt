@@ -4,7 +4,6 @@ use Prim.Native.Nat.{ℕ, ◌+◌, ◌-◌, ◌*◌, ◌%◌, ◌^◌, ◌≤◌
 use native.Mathlib.Omega.{arith}
 use native.Mathlib.Nat.{mod-le}
 use lib.Bits.{bit_and}
-use borrow.Author.Rules.{rules}
 use Rattle.words.specs.ShiftLaws.{one_shl_pos}
 use Rattle.ring_keys.specs.RingKey.{packed}
 use Rattle.ring_keys.specs.FillLaws.{column_code, pack_code}
@@ -12,14 +11,14 @@ use Rattle.ring_keys.proofs.fill.pack.Goals as goal
 use Rattle.ring_keys.proofs.fill.pack.Goals.{Start}
 
 -- the column as the code has it
-abbrev column : tie.Start → ℕ
-column c = bit_and c.args.o (1 * 2 ^ c.args.t % 2 ^ 64 - 1)
+abbrev column : (t o : ℕ) → ℕ
+column t o = bit_and o (1 * 2 ^ t % 2 ^ 64 - 1)
 
-column_is : (c : goal.Start) → column c ≡ c.args.o % 2 ^ c.args.t
+column_is : (c : goal.Start) → column c.args.t c.args.o ≡ c.args.o % 2 ^ c.args.t
 column_is c = column_code c.args.t c.args.o (omega arith)
 
-packs : (c : goal.Start) → (column c ≤ c.args.o) × ((c.args.base + column c) * 2 ^ 32 % 2 ^ 64 + (c.args.o - column c) ≡ packed c.args.t c.args.base c.args.o)
-packs c = pack_code c.args.t c.args.base c.args.o (column c) (omega arith) (omega arith) (column_is c)
+packs : (c : goal.Start) → (column c.args.t c.args.o ≤ c.args.o) × ((c.args.base + column c.args.t c.args.o) * 2 ^ 32 % 2 ^ 64 + (c.args.o - column c.args.t c.args.o) ≡ packed c.args.t c.args.base c.args.o)
+packs c = pack_code c.args.t c.args.base c.args.o (column c.args.t c.args.o) (omega arith) (omega arith) (column_is c)
 
 pub overflow_sub-column : goal.overflow_sub-column
 overflow_sub-column c = one_shl_pos 64 c.args.t (omega arith)

@@ -1,10 +1,8 @@
 -- `add_row` joins the key's row to the word, and stores nothing else.
 use native.Mathlib.Omega.{arith}
-use borrow.Author.Rules.{rules}
 use Rattle.rings.specs.RingLaws.{n_pos}
 use Rattle.ring_keys.specs.GatherLaws.{row_added}
 use Rattle.ring_keys.proofs.gather.add_row.Goals as goal
-use Rattle.ring_keys.proofs.gather.add_row.Goals.{Start}
 
 pub key_row-row-requires : goal.key_row-row-requires
 key_row-row-requires c =

@@ -1,8 +1,6 @@
 -- `add_row_64` joins the key's row to the word, and stores nothing else.
-use borrow.Author.Rules.{rules}
 use Rattle.ring_keys.specs.GatherLaws.{row_added}
 use Rattle.ring_keys.proofs.gather.add_row_64.Goals as goal
-use Rattle.ring_keys.proofs.gather.add_row_64.Goals.{Start}
 
 pub key_row_64-row-requires : goal.key_row_64-row-requires
 key_row_64-row-requires c =

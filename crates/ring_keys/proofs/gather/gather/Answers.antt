@@ -1,12 +1,9 @@
 -- `gather` goes hash by hash between the two calls that begin and finish the free words; what is left is the laws of the pass.
-use Prim.Native.Nat.{◌-◌}
 use native.Mathlib.Omega.{arith}
-use borrow.Author.Rules.{rules}
 use Rattle.geometry.proofs.Sizes.{sized}
 use Rattle.ring_keys.specs.FillLaws.{layouts_are}
-use Rattle.ring_keys.specs.GatherLaws.{Gathering, gathering_none, gathering_more, ready_shape, ready_order, ready_hash, gathered}
+use Rattle.ring_keys.specs.GatherLaws.{gathering_none, gathering_more, ready_shape, ready_order, ready_hash, gathered}
 use Rattle.ring_keys.proofs.gather.gather.Goals as goal
-use Rattle.ring_keys.proofs.gather.gather.Goals.{Start}
 
 pub begin_free-requires : goal.begin_free-requires
 begin_free-requires c = omega (arith, layouts_are c.args.g c.requires.made, c.requires.free)

@@ -1,10 +1,6 @@
 -- `gather` goes hash by hash between the two calls that begin and finish the free words; what is left is the laws of the pass.
 use Prim.Native.Nat.{◌-◌}
-use native.Mathlib.Omega.{arith}
-use borrow.Author.Rules.{rules}
-use Rattle.geometry.proofs.Sizes.{sized}
-use Rattle.ring_keys.specs.FillLaws.{layouts_are}
-use Rattle.ring_keys.specs.GatherLaws.{Gathering, gathering_none, gathering_more, ready_shape, ready_order, ready_hash, gathered}
+use Rattle.ring_keys.specs.GatherLaws.{Gathering}
 use Rattle.ring_keys.proofs.gather.gather.Given as goal
 
 abbrev pub invariant-loop-i : goal.invariant-loop-i

@@ -1,4 +1,4 @@
--- `ring_of_lem` takes the numbers of rule G that the geometry has.
+-- `ring_of` takes the numbers of rule G that the geometry has.
 use mathlib.Core.Path.{◌≡◌, refl}
 use Prim.Native.Nat.{◌/◌}
 use Rattle.geometry.specs.declared.shape.Geometry.{Geometry}

@@ -1,20 +1,16 @@
 -- The best so far is that of the layouts below r, and the work is as it was. The measure is the number of layouts left. Assumes nothing.
 use mathlib.Core.Path.{◌≡◌, refl, ◌∙◌}
-use Prim.Native.Nat.{◌+◌, ◌-◌, ◌*◌, ◌≤◌}
 use native.Mathlib.Omega.{arith}
-use borrow.Author.Rules.{rules}
 use Rattle.best.specs.Layouts.{row_le}
-use Rattle.search.specs.Distinct.{best_distinct}
 use Rattle.search.specs.DistinctLaws.{rows_none, rows_more}
 use Rattle.search.proofs.distinct.best_distinct.Goals as goal
-use Rattle.search.proofs.distinct.best_distinct.Goals.{Start}
 
 pub loop-r-init : goal.loop-r-init
 loop-r-init c = (refl, omega arith, rows_none _ _ _ _ _ _ _ _, omega arith, omega arith)
 
 pub distinct_layout-best-requires : goal.distinct_layout-best-requires
 distinct_layout-best-requires c = let lt = c.loop-r-test.true in
-    rw (c.loop-r.invariant.0, c.loop-r.invariant.3, c.loop-r.invariant.4) (c.requires.keys c.loop-r.r lt, c.requires.free c.loop-r.r lt)
+    rw (c.loop-r.invariant.0, c.loop-r.invariant.3, c.loop-r.invariant.4) (record { key_row = c.requires.keys c.loop-r.r lt; free_row = c.requires.free c.loop-r.r lt })
 
 pub overflow_add-a : goal.overflow_add-a
 overflow_add-a c = omega (arith, c.requires.room.0, c.loop-r.invariant.3, row_le _ _ c.args.size c.loop-r-test.true)

@@ -1,11 +1,7 @@
 -- The best so far is that of the layouts below r, and the work is as it was. The measure is the number of layouts left. Assumes nothing.
-use mathlib.Core.Path.{◌≡◌, refl, ◌∙◌}
+use mathlib.Core.Path.{◌≡◌}
 use Prim.Native.Nat.{◌+◌, ◌-◌, ◌*◌, ◌≤◌}
-use native.Mathlib.Omega.{arith}
-use borrow.Author.Rules.{rules}
-use Rattle.best.specs.Layouts.{row_le}
 use Rattle.search.specs.Distinct.{best_distinct}
-use Rattle.search.specs.DistinctLaws.{rows_none, rows_more}
 use Rattle.search.proofs.distinct.best_distinct.Given as goal
 
 abbrev pub invariant-loop-r : goal.invariant-loop-r

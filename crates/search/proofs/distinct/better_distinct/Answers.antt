@@ -3,12 +3,10 @@
 use mathlib.Core.Path.{refl}
 use Prim.Native.Nat.{◌≤◌}
 use native.Mathlib.Omega.{arith}
-use borrow.Author.Rules.{rules}
 use Rattle.rings.specs.RingLaws.{n_le}
 use Rattle.rings.specs.Parts.{part_range}
 use Rattle.search.specs.DistinctLaws.{step_dear, step_fits, step_meets}
 use Rattle.search.proofs.distinct.better_distinct.Goals as goal
-use Rattle.search.proofs.distinct.better_distinct.Goals.{Start}
 
 pub cost-c-requires : goal.cost-c-requires
 cost-c-requires c =
@@ -36,7 +34,7 @@ fits-requires c =
 
 pub returns-then-fits : goal.returns-then-fits
 returns-then-fits c = let e = rw (part_range c.args.work.now c.args.a c.args.size) at c.cost-c.ensures.0 in
-    (step_fits c.requires.key_row c.requires.j_lt_n c.requires.unused _ _ e c.if-best-c.false c.fits2.ensures.0 c.if-fits.true, c.fits2.ensures.1)
+    (step_fits c.requires.key_row c.requires.j_lt_n c.requires.unused _ _ e c.if-best-c.false c.fits.ensures.0 c.if-fits.true, c.fits.ensures.1)
 
 pub returns : goal.returns
-returns c = (step_meets c.requires.key_row c.requires.j_lt_n c.requires.unused _ _ c.fits2.ensures.0 c.if-fits.false, c.fits2.ensures.1)
+returns c = (step_meets c.requires.key_row c.requires.j_lt_n c.requires.unused _ _ c.fits.ensures.0 c.if-fits.false, c.fits.ensures.1)

@@ -1,16 +1,11 @@
 -- The best so far is that of the rotations below 64 w, and from n on none is free; the work is as it was. The measure is the number of words left.
 -- Assumes nothing.
-use mathlib.Core.Path.{◌≡◌, refl, sym, ◌∙◌}
+use mathlib.Core.Path.{◌≡◌}
 use Prim.Native.Nat.{◌≤◌, ◌-◌, ◌*◌}
-use native.Mathlib.Omega.{arith}
-use borrow.Author.Rules.{rules}
 use Rattle.rings.specs.Keys.{cost_at}
-use Rattle.rings.specs.Parts.{part, length_part}
+use Rattle.rings.specs.Parts.{part}
 use Rattle.best.specs.Best.{best_from}
-use Rattle.best.specs.BestLaws.{from_none}
-use Rattle.best.specs.Walk.{word_more, word_end}
 use Rattle.search.specs.Distinct.{is_distinct}
-use Rattle.search.specs.DistinctLaws.{distinct_only}
 use Rattle.search.proofs.distinct.distinct_layout.Given as goal
 
 abbrev pub invariant-loop-w : goal.invariant-loop-w

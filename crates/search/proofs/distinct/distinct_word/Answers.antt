@@ -1,18 +1,14 @@
 -- The best so far is that of the rotations below the lowest bit left (`Walk`), and the work is as it was. The measure is what is left of the word.
 -- Assumes nothing.
-use mathlib.Core.Path.{◌≡◌, refl, ◌∙◌}
+use mathlib.Core.Path.{refl, ◌∙◌}
 use Prim.Native.Nat.{◌+◌, ◌*◌}
 use native.Mathlib.Omega.{arith}
 use lib.Count.{count_trailing_zeros}
-use borrow.Author.Rules.{rules}
 use Rattle.words.specs.CountLaws.{clear_less}
-use Rattle.rings.specs.Keys.{cost_at}
 use Rattle.rings.specs.Parts.{part, length_part}
-use Rattle.best.specs.Walk.{Walk, walk_lt, walk_free, walk_end}
-use Rattle.search.specs.Distinct.{is_distinct}
+use Rattle.best.specs.Walk.{walk_lt, walk_free, walk_end}
 use Rattle.search.specs.DistinctLaws.{walk_begin, walk_step, free_turn}
 use Rattle.search.proofs.distinct.distinct_word.Goals as goal
-use Rattle.search.proofs.distinct.distinct_word.Goals.{Start}
 
 pub loop-left-init : goal.loop-left-init
 loop-left-init c =
@@ -31,7 +27,7 @@ pub better_distinct-best-requires : goal.better_distinct-best-requires
 better_distinct-best-requires c = let a = c.loop-left.invariant.1 in
     let free = walk_free a c.loop-left-test.true in
     let turn = free_turn (64 * c.args.w + count_trailing_zeros 64 c.loop-left.left) c.requires.free_row.ended free in
-    rw c.loop-left.invariant.0 (c.requires.key_row, (turn, c.requires.free_row.unused _ turn free))
+    rw c.loop-left.invariant.0 (record { key_row = c.requires.key_row; j_lt_n = turn; unused = c.requires.free_row.unused _ turn free })
 
 pub loop-left-smaller : goal.loop-left-smaller
 loop-left-smaller c = clear_less _ c.loop-left-test.true

@@ -1,16 +1,10 @@
 -- The best so far is that of the rotations below the lowest bit left (`Walk`), and the work is as it was. The measure is what is left of the word.
 -- Assumes nothing.
-use mathlib.Core.Path.{◌≡◌, refl, ◌∙◌}
-use Prim.Native.Nat.{◌+◌, ◌*◌}
-use native.Mathlib.Omega.{arith}
-use lib.Count.{count_trailing_zeros}
-use borrow.Author.Rules.{rules}
-use Rattle.words.specs.CountLaws.{clear_less}
+use mathlib.Core.Path.{◌≡◌}
 use Rattle.rings.specs.Keys.{cost_at}
-use Rattle.rings.specs.Parts.{part, length_part}
-use Rattle.best.specs.Walk.{Walk, walk_lt, walk_free, walk_end}
+use Rattle.rings.specs.Parts.{part}
+use Rattle.best.specs.Walk.{Walk}
 use Rattle.search.specs.Distinct.{is_distinct}
-use Rattle.search.specs.DistinctLaws.{walk_begin, walk_step, free_turn}
 use Rattle.search.proofs.distinct.distinct_word.Given as goal
 
 abbrev pub invariant-loop-left : goal.invariant-loop-left

@@ -1,10 +1,8 @@
 -- Where no word has a one there is none; both ways to the best give the best of the rotations that are free. Assumes nothing.
 use native.Mathlib.Omega.{arith}
-use borrow.Author.Rules.{rules}
 use Rattle.best.specs.Kept.{kept_self}
 use Rattle.search.specs.LookLaws.{none_best}
 use Rattle.search.proofs.look.best_free.Goals as goal
-use Rattle.search.proofs.look.best_free.Goals.{Start}
 
 pub returns-then-total-eq0 : goal.returns-then-total-eq0
 returns-then-total-eq0 c = (none_best c.requires (λ k. (c.type_inv.work k).fits) c.if-total-eq0.true, kept_self _ _)

@@ -2,7 +2,6 @@
 use Rattle.rings.specs.RingLaws.{n_pos}
 use Rattle.search.specs.LookLaws.{free_one_word, free_more_words}
 use Rattle.search.proofs.look.free_words.Goals as goal
-use Rattle.search.proofs.look.free_words.Goals.{Start}
 
 pub returns-then-n-lt64 : goal.returns-then-n-lt64
 returns-then-n-lt64 c = free_one_word _ (n_pos c.args.g c.requires) c.if-n-lt64.true

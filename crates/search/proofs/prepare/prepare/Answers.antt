@@ -1,7 +1,6 @@
 -- One pass fills in ring keys and free words, with literals where these are the geometry's own numbers; where a layout has more than one free word the ring keys
 -- are filled in first, and the free words are then those of the ring keys. Assumes nothing.
 use native.Mathlib.Omega.{arith}
-use borrow.Author.Rules.{rules}
 use Rattle.search.specs.Usual.{usual_ring}
 use Rattle.search.specs.Preparing.{ring_shape, layouts_few, keys_room, keys_known, gathered, one_ready, one_gathered, literal_ready, literal_gathered}
 use Rattle.search.proofs.prepare.prepare.Goals as goal

@@ -1,14 +1,10 @@
 -- Ring and bitmap are marked key after key (`Marking`, `Mapping`), up to a key whose slot the ring has marked already; the keys lie above the ring, so no mark
 -- changes them. The measure is the number of keys left. Assumes nothing.
-use Prim.Native.Nat.{◌-◌}
 use native.Mathlib.Omega.{arith}
-use borrow.Author.Tests.{not-true, not-false}
-use Rattle.rings.specs.Parts.{part, length_part}
-use Rattle.rings.specs.PlaceLaws.{Marking, marking_none, marking_ok, marking_met, marking_more, marking_all, Mapping, mapping_none, mapping_more}
+use Rattle.rings.specs.Parts.{length_part}
+use Rattle.rings.specs.PlaceLaws.{marking_none, marking_ok, marking_met, marking_more, marking_all, mapping_none, mapping_more}
 use Rattle.search.proofs.BothLaws.{slot_is}
-use borrow.Author.Rules.{rules}
 use Rattle.search.proofs.settle.mark_both.Goals as goal
-use Rattle.search.proofs.settle.mark_both.Goals.{Start}
 
 pub loop-i-init : goal.loop-i-init
 loop-i-init c = (marking_none _ _ _ _ _ _, mapping_none _ _ _ _ _)
@@ -46,13 +42,13 @@ pub shape_of-bitmap-then-not-take_slot : goal.shape_of-bitmap-then-not-take_slot
 shape_of-bitmap-then-not-take_slot c = c.loop-i.invariant.1.len
 
 pub returns-then-not-take_slot : goal.returns-then-not-take_slot
-returns-then-not-take_slot c = let l = c.loop-i.invariant in let h = c.loop-i-test.true in record { ring = marking_met c.requires.shape l.0 c.requires.above h c.slot_of-p.ensures c.take_slot.ensures (not-true _ c.if-not-take_slot.true-raw); map = l.1.is }
+returns-then-not-take_slot c = let l = c.loop-i.invariant in let h = c.loop-i-test.true in record { ring = marking_met c.requires.shape l.0 c.requires.above h c.slot_of-p.ensures c.take_slot.ensures c.if-not-take_slot.true; map = l.1.is }
 
 pub set_bit-requires : goal.set_bit-requires
 set_bit-requires c = let l = c.loop-i.invariant in let h = c.loop-i-test.true in let e = slot_is c.requires.shape l.0 c.requires.above h c.slot_of-p.ensures in omega (arith, e, c.requires.inside c.loop-i.i (omega (arith, length_part c.args.work.now c.args.a c.args.size c.requires.room)), l.1.len)
 
 pub loop-i-preserved : goal.loop-i-preserved
-loop-i-preserved c = let l = c.loop-i.invariant in let h = c.loop-i-test.true in (marking_more c.requires.shape l.0 c.requires.above h c.slot_of-p.ensures c.take_slot.ensures (not-false _ c.if-not-take_slot.false-raw), mapping_more l.1 (omega (arith, length_part c.args.work.now c.args.a c.args.size c.requires.room)) (slot_is c.requires.shape l.0 c.requires.above h c.slot_of-p.ensures) c.set_bit.ensures)
+loop-i-preserved c = let l = c.loop-i.invariant in let h = c.loop-i-test.true in (marking_more c.requires.shape l.0 c.requires.above h c.slot_of-p.ensures c.take_slot.ensures c.if-not-take_slot.false, mapping_more l.1 (omega (arith, length_part c.args.work.now c.args.a c.args.size c.requires.room)) (slot_is c.requires.shape l.0 c.requires.above h c.slot_of-p.ensures) c.set_bit.ensures)
 
 pub shape_of-work : goal.shape_of-work
 shape_of-work c = c.loop-i.invariant.0.len

@@ -1,12 +1,8 @@
 -- Ring and bitmap are marked key after key (`Marking`, `Mapping`), up to a key whose slot the ring has marked already; the keys lie above the ring, so no mark
 -- changes them. The measure is the number of keys left. Assumes nothing.
 use Prim.Native.Nat.{◌-◌}
-use native.Mathlib.Omega.{arith}
-use borrow.Author.Tests.{not-true, not-false}
-use Rattle.rings.specs.Parts.{part, length_part}
-use Rattle.rings.specs.PlaceLaws.{Marking, marking_none, marking_ok, marking_met, marking_more, marking_all, Mapping, mapping_none, mapping_more}
-use Rattle.search.proofs.BothLaws.{slot_is}
-use borrow.Author.Rules.{rules}
+use Rattle.rings.specs.Parts.{part}
+use Rattle.rings.specs.PlaceLaws.{Marking, Mapping}
 use Rattle.search.proofs.settle.mark_both.Given as goal
 
 abbrev pub invariant-loop-i : goal.invariant-loop-i

@@ -1,6 +1,5 @@
 -- The literal ring is the ring itself. Assumes nothing.
 use Rattle.search.proofs.BothLaws.{asked_same, marked_same}
-use borrow.Author.Rules.{rules}
 use Rattle.search.proofs.settle.mark_slots.Goals as goal
 
 pub literal_ring-requires : goal.literal_ring-requires

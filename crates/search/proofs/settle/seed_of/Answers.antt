@@ -3,7 +3,6 @@ use native.Mathlib.Nat.{mul-le-mul_left}
 use native.Mathlib.Omega.{arith}
 use Rattle.search.specs.SettleLaws.{seed_whole, seed_part}
 use Rattle.search.proofs.settle.seed_of.Goals as goal
-use Rattle.search.proofs.settle.seed_of.Goals.{Start}
 
 pub overflow_add-r : goal.overflow_add-r
 overflow_add-r c = omega arith

@@ -7,9 +7,7 @@ use Rattle.rings.specs.Parts.{part}
 use Rattle.rings.specs.Place.{unmarked_to}
 use Rattle.rings.specs.PlaceLaws.{part_marked_to}
 use Rattle.search.proofs.BothLaws.{settling_after, settled_yes, settled_no}
-use borrow.Author.Rules.{rules}
 use Rattle.search.proofs.settle.settle.Goals as goal
-use Rattle.search.proofs.settle.settle.Goals.{Start}
 
 pub mark_slots-k-requires : goal.mark_slots-k-requires
 mark_slots-k-requires c = c.requires.settling

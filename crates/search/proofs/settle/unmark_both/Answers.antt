@@ -3,12 +3,10 @@
 use mathlib.Core.Path.{◌≡◌, sym, ◌∙◌}
 use Prim.Native.Nat.{◌-◌}
 use native.Mathlib.Omega.{arith}
-use Rattle.rings.specs.Parts.{part, length_part}
-use Rattle.rings.specs.PlaceLaws.{Unmarking, unmarking_start, unmarking_ok, unmarking_more, unmarked_to_zero}
-use Rattle.search.proofs.BothLaws.{Clearing, clearing_start, clearing_more, cleared_none, slot_back}
-use borrow.Author.Rules.{rules}
+use Rattle.rings.specs.Parts.{length_part}
+use Rattle.rings.specs.PlaceLaws.{unmarking_start, unmarking_ok, unmarking_more, unmarked_to_zero}
+use Rattle.search.proofs.BothLaws.{clearing_start, clearing_more, cleared_none, slot_back}
 use Rattle.search.proofs.settle.unmark_both.Goals as goal
-use Rattle.search.proofs.settle.unmark_both.Goals.{Start}
 
 pub loop-i-init : goal.loop-i-init
 loop-i-init c = (unmarking_start _ _ _ _ _ _ _ _, clearing_start _ _ _ _ _ _)

@@ -1,12 +1,8 @@
 -- Ring and bitmap are unmarked from the last key to the first (`Unmarking`, `Clearing`); the keys lie above the ring, so nothing changes them. The measure is
 -- the number of keys left. Assumes nothing.
-use mathlib.Core.Path.{◌≡◌, sym, ◌∙◌}
-use Prim.Native.Nat.{◌-◌}
-use native.Mathlib.Omega.{arith}
-use Rattle.rings.specs.Parts.{part, length_part}
-use Rattle.rings.specs.PlaceLaws.{Unmarking, unmarking_start, unmarking_ok, unmarking_more, unmarked_to_zero}
-use Rattle.search.proofs.BothLaws.{Clearing, clearing_start, clearing_more, cleared_none, slot_back}
-use borrow.Author.Rules.{rules}
+use Rattle.rings.specs.Parts.{part}
+use Rattle.rings.specs.PlaceLaws.{Unmarking}
+use Rattle.search.proofs.BothLaws.{Clearing}
 use Rattle.search.proofs.settle.unmark_both.Given as goal
 
 abbrev pub invariant-loop-i : goal.invariant-loop-i

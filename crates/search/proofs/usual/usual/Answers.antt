@@ -1,5 +1,4 @@
 -- Each of the three tests passed tells its field. Assumes nothing.
-use borrow.Author.Rules.{rules}
 use Rattle.rules.proofs.Tests.{of_true}
 use Rattle.search.proofs.usual.usual.Goals as goal
 

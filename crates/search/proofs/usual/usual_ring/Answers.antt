@@ -1,6 +1,5 @@
 -- Each of the three tests passed tells its field. Assumes nothing.
 use Rattle.rules.proofs.Tests.{of_true}
-use borrow.Author.Rules.{rules}
 use Rattle.search.proofs.usual.usual_ring.Goals as goal
 
 pub returns-then-ring-ne64 : goal.returns-then-ring-ne64

@@ -1,7 +1,6 @@
 -- `bound` is the quotient of the definition: no product of a range's number and the buckets is too large.
 use native.Mathlib.Omega.{arith}
 use Rattle.sweep.proofs.RangeLaws.{product_fits}
-use borrow.Author.Rules.{rules}
 use Rattle.sweep.proofs.chunks.bound.Goals as goal
 
 pub overflow_mul-result : goal.overflow_mul-result

@@ -1,6 +1,5 @@
 -- `chunk_count` is `chunk_count`, by the gap that it is handed; a chunk has at least 4,096 buckets, so there are few.
 use Rattle.sweep.proofs.RangeLaws.{count_by}
-use borrow.Author.Rules.{rules}
 use Rattle.sweep.proofs.chunks.chunk_count.Goals as goal
 
 pub returns : goal.returns

@@ -2,7 +2,6 @@
 use native.Mathlib.Omega.{arith}
 use Prim.Native.Nat.{◌-◌}
 use Rattle.sweep.proofs.RangeLaws.{gap_room, short_by, last_by, gap_by}
-use borrow.Author.Rules.{rules}
 use Rattle.sweep.proofs.chunks.range_at.Goals as goal
 use Rattle.sweep.proofs.chunks.range_at.Goals.{Start}
 

@@ -1,10 +1,9 @@
-use lib.ListN.{length, replicate, drop, set, length-set, drop_of_length-le}
-use Prim.Native.Nat.{ℕ, ◌+◌, ◌-◌, ◌<◌, ◌≤◌}
-use mathlib.Core.List.{List, [], ◌++◌, append-nil}
-use mathlib.Core.Path.{◌≡◌, refl, sym, ap, ◌∙◌}
+use lib.ListN.{length, replicate, set, length-set, drop_of_length-le}
+use Prim.Native.Nat.{ℕ}
+use mathlib.Core.List.{List, ◌++◌, append-nil}
+use mathlib.Core.Path.{◌≡◌, refl, ap, ◌∙◌}
 use native.Mathlib.Omega.{arith}
 use borrow.Author.Fill.{fill_none, fill_more}
-use borrow.Author.Rules.{rules}
 use Rattle.sweep.proofs.clearing.clear_seeds.Goals as goal
 
 pub loop-i-init : goal.loop-i-init

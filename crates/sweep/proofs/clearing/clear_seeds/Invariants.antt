@@ -1,10 +1,7 @@
-use lib.ListN.{length, replicate, drop, set, length-set, drop_of_length-le}
-use Prim.Native.Nat.{ℕ, ◌+◌, ◌-◌, ◌<◌, ◌≤◌}
-use mathlib.Core.List.{List, [], ◌++◌, append-nil}
-use mathlib.Core.Path.{◌≡◌, refl, sym, ap, ◌∙◌}
-use native.Mathlib.Omega.{arith}
-use borrow.Author.Fill.{fill_none, fill_more}
-use borrow.Author.Rules.{rules}
+use lib.ListN.{length, replicate, drop}
+use Prim.Native.Nat.{◌-◌, ◌≤◌}
+use mathlib.Core.List.{◌++◌}
+use mathlib.Core.Path.{◌≡◌}
 use Rattle.sweep.proofs.clearing.clear_seeds.Given as goal
 
 abbrev pub invariant-loop-i : goal.invariant-loop-i

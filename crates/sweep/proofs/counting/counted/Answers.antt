@@ -1,13 +1,12 @@
 use Rattle.sweep.proofs.CountLaws.{counted_as}
 use Rattle.sweep.proofs.CountLaws.{counts_at, counted_none, counted_zero, counted_placed, regular_grouped}
 use Rattle.sweep.specs.Counting.{Counted}
-use lib.ListN.{length, get_or}
-use Prim.Native.Nat.{ℕ, ◌+◌, ◌-◌, ◌*◌, ◌^◌, ◌<◌, ◌≤◌}
-use mathlib.Core.Logic.{⊎_elim}
-use mathlib.Core.Path.{◌≡◌, refl, sym, ap, ◌∙◌, subst}
+use lib.ListN.{length}
+use Prim.Native.Nat.{ℕ}
+use mathlib.Core.Path.{◌≡◌, subst}
 use native.Mathlib.Omega.{arith}
-use borrow.Author.Rules.{rules}
 use Rattle.sweep.proofs.counting.counted.Goals as goal
+use Rattle.sweep.proofs.counting.counted.Goals.{then-seeds-b-eq0, else-seeds-b-eq0}
 
 pub loop-b-init : goal.loop-b-init
 loop-b-init c = (omega arith, counted_none _ _, omega arith, omega arith, omega arith)
@@ -31,10 +30,22 @@ pub loop-b-preserved : goal.loop-b-preserved
 loop-b-preserved c =
     let e = c.size_of-size.ensures.0 in
     let s = c.size_of-size.ensures.1 in
-    ⊎_elim
-    (λ w. (omega arith, counted_as (counted_zero c.loop-b.invariant.1 e w.0.taken) w.1 w.2 w.3, omega (arith, w.1), omega (arith, w.2), omega (arith, w.3)))
-    (λ w. (omega arith, counted_as (counted_placed c.loop-b.invariant.1 e w.0.left) w.1 w.2 w.3, omega (arith, w.1), omega (arith, w.2), omega (arith, w.3)))
-    c.if-seeds-b-eq0.branch
+    elim c.if-seeds-b-eq0.branch [
+      | then-seeds-b-eq0 w ↦ (
+        omega arith,
+        counted_as (counted_zero c.loop-b.invariant.1 e w.if-seeds-b-eq0.true) w.placed-is w.bumped-is w.zero-is,
+        omega (arith, w.placed-is),
+        omega (arith, w.bumped-is),
+        omega (arith, w.zero-is),
+      )
+      | else-seeds-b-eq0 w ↦ (
+        omega arith,
+        counted_as (counted_placed c.loop-b.invariant.1 e w.if-seeds-b-eq0.false) w.placed-is w.bumped-is w.zero-is,
+        omega (arith, w.placed-is),
+        omega (arith, w.bumped-is),
+        omega (arith, w.zero-is),
+      )
+    ]
 
 pub returns : goal.returns
 returns c = let e : c.loop-b.b ≡ length c.args.seeds.now = omega arith in subst (λ (n : ℕ). Counted c.args.begins.now c.args.seeds.now n (counts_at c.loop-b.placed c.loop-b.bumped c.loop-b.zero)) e c.loop-b.invariant.1

@@ -1,12 +1,7 @@
-use Rattle.sweep.proofs.CountLaws.{counted_as}
-use Rattle.sweep.proofs.CountLaws.{counts_at, counted_none, counted_zero, counted_placed, regular_grouped}
+use Rattle.sweep.proofs.CountLaws.{counts_at}
 use Rattle.sweep.specs.Counting.{Counted}
-use lib.ListN.{length, get_or}
-use Prim.Native.Nat.{ℕ, ◌+◌, ◌-◌, ◌*◌, ◌^◌, ◌<◌, ◌≤◌}
-use mathlib.Core.Logic.{⊎_elim}
-use mathlib.Core.Path.{◌≡◌, refl, sym, ap, ◌∙◌, subst}
-use native.Mathlib.Omega.{arith}
-use borrow.Author.Rules.{rules}
+use lib.ListN.{length}
+use Prim.Native.Nat.{◌-◌, ◌*◌, ◌≤◌}
 use Rattle.sweep.proofs.counting.counted.Given as goal
 
 abbrev pub invariant-loop-b : goal.invariant-loop-b

@@ -1,11 +1,7 @@
 use lib.Pow.{pow_pos}
-use Rattle.rings.specs.Columns.{Caches}
 use Rattle.geometry.proofs.Sizes.{sized}
-use lib.ListN.{length}
-use Prim.Native.Nat.{ℕ, ◌+◌, ◌-◌, ◌*◌, ◌^◌, ◌<◌, ◌≤◌}
-use mathlib.Core.Path.{◌≡◌, refl, sym, ap, ◌∙◌, subst}
+use mathlib.Core.Path.{refl, ◌∙◌}
 use native.Mathlib.Omega.{arith}
-use borrow.Author.Rules.{rules}
 use Rattle.sweep.proofs.moving.advance.Goals as goal
 use Rattle.sweep.proofs.moving.advance.Goals.{Start}
 

@@ -1,11 +1,7 @@
-use lib.Pow.{pow_pos}
 use Rattle.rings.specs.Columns.{Caches}
-use Rattle.geometry.proofs.Sizes.{sized}
 use lib.ListN.{length}
-use Prim.Native.Nat.{ℕ, ◌+◌, ◌-◌, ◌*◌, ◌^◌, ◌<◌, ◌≤◌}
-use mathlib.Core.Path.{◌≡◌, refl, sym, ap, ◌∙◌, subst}
-use native.Mathlib.Omega.{arith}
-use borrow.Author.Rules.{rules}
+use Prim.Native.Nat.{◌-◌, ◌≤◌}
+use mathlib.Core.Path.{◌≡◌}
 use Rattle.sweep.proofs.moving.advance.Given as goal
 
 abbrev pub invariant-loop-at : goal.invariant-loop-at

@@ -1,9 +1,7 @@
 use Rattle.integers.specs.Shifts.{shl_is}
 use lib.Pow.{pow_mono}
-use Prim.Native.Nat.{ℕ, ◌*◌, ◌^◌, ◌≤◌, ◌<◌}
-use mathlib.Core.Path.{◌≡◌, sym}
+use Prim.Native.Nat.{◌^◌, ◌≤◌}
 use native.Mathlib.Omega.{arith}
-use borrow.Author.Rules.{rules}
 use Rattle.sweep.proofs.moving.column_slots.Goals as goal
 use Rattle.sweep.proofs.moving.column_slots.Goals.{Start}
 

@@ -1,12 +1,10 @@
 -- `load` takes the column that the first slot of bucket lo stands in, so the ring begins at or before it.
 use native.Mathlib.Omega.{arith}
-use mathlib.Core.Path.{◌≡◌, refl, sym, ap, ◌∙◌, subst}
-use Prim.Native.Nat.{ℕ, ◌+◌, ◌-◌, ◌*◌, ◌/◌, ◌^◌, ◌<◌, ◌≤◌}
-use lib.ListN.{length}
+use mathlib.Core.Path.{◌≡◌, sym, ap, ◌∙◌, subst}
+use Prim.Native.Nat.{ℕ, ◌*◌, ◌/◌, ◌^◌}
 use Rattle.geometry.proofs.Sizes.{sized}
 use Rattle.rings.specs.Columns.{col_slot, Caches}
 use Rattle.sweep.proofs.RangeLaws.{col_le, col_is}
-use borrow.Author.Rules.{rules}
 use Rattle.sweep.proofs.moving.load.Goals as goal
 use Rattle.sweep.proofs.moving.load.Goals.{Start}
 

@@ -1,18 +1,15 @@
 -- `run` takes range after range: before range k the turns taken are those of the first k ranges. The next has none of them, since each bucket stands in one range,
 -- and after the last they are all turns of the sweep.
-use mathlib.Core.List.{List, []}
-use mathlib.Core.Path.{◌≡◌, refl, sym, ap, ◌∙◌, subst}
-use Prim.Native.Nat.{ℕ, ◌+◌, ◌-◌, ◌*◌, ◌<◌, ◌≤◌}
+use mathlib.Core.Path.{refl, ◌∙◌}
+use Prim.Native.Nat.{◌<◌}
 use native.Mathlib.Omega.{arith}
 use lib.ListN.{length}
-use borrow.Author.Rules.{rules}
 use Rattle.rules.specs.Good.{Moderate}
-use Rattle.rules.specs.Order.{Input, input_of}
+use Rattle.rules.specs.Order.{input_of}
 use Rattle.rules.specs.Chunks.{chunk_count}
 use Rattle.rules.specs.Chunks as R
-use Rattle.sweep.specs.Sweeping.{Resting}
 use Rattle.sweep.proofs.StartLaws.{rests}
-use Rattle.sweep.proofs.RunLaws.{up_to, next_range, ran_all, ran_at, span_is, span_count, span_room, rests_first, rests_more}
+use Rattle.sweep.proofs.RunLaws.{next_range, ran_all, ran_at, span_is, span_count, span_room, rests_first, rests_more}
 use Rattle.sweep.proofs.turning.run.Goals as goal
 use Rattle.sweep.proofs.turning.run.Goals.{Start}
 
@@ -82,7 +79,7 @@ returns-in-At c =
     let h : k < length (R.ranges i.settings m) = omega (arith, span_count i c.args.g refl n m e, c.loop-k-test.true) in
     let at = span_is i c.args.g refl n m e k _ _ c.range_at-span.ensures in
     let f = c.run_range-ended.ensures i _ (next_range m k here h _ _ at) in
-    ran_at m k h at f c.ended-1.given.1 c.args.how refl refl
+    ran_at m k h at f c.in-At.is c.args.how refl refl
 
 pub overflow_add-k : goal.overflow_add-k
 overflow_add-k c = omega (arith, c.loop-k-test.true, c.chunk_count-chunks.ensures.2)
@@ -100,7 +97,7 @@ loop-k-preserved c = (
       let h : k < length (R.ranges i.settings m) = omega (arith, span_count i c.args.g same n m e, c.loop-k-test.true) in
       let at = span_is i c.args.g same n m e k _ _ c.range_at-span.ensures in
       let next = next_range m k here h _ _ at in
-      rests_more m k h at next (c.run_range-ended.ensures i _ next) c.enum_told-1.given.1 c.run_range-ended.auto.work,
+      rests_more m k h at next (c.run_range-ended.ensures i _ next) c.in_default.is c.run_range-ended.auto.work,
   omega (arith, c.loop-k-test.true),
   c.run_range-ended.auto.seeds ∙ c.loop-k.invariant.2,
   c.run_range-ended.auto.bitmap ∙ c.loop-k.invariant.3,

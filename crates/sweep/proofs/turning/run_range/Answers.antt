@@ -1,10 +1,9 @@
 -- `run_range` loads the ring at the range's first bucket and blanks the window; then a record of the turns starts, with those of the ranges before.
 use native.Mathlib.Omega.{arith}
-use mathlib.Core.Path.{◌≡◌, refl, sym, ap, ◌∙◌, subst}
+use mathlib.Core.Path.{ap}
 use Rattle.rules.specs.declared.Settings.{Settings}
 use Rattle.sweep.proofs.StepLaws.{ring_shape, ring_room, caches_out, first_out}
 use Rattle.sweep.proofs.StartLaws.{starts}
-use borrow.Author.Rules.{rules}
 use Rattle.sweep.proofs.turning.run_range.Goals as goal
 use Rattle.sweep.proofs.turning.run_range.Goals.{Start}
 

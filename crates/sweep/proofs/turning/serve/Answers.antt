@@ -1,7 +1,5 @@
 use Rattle.sweep.proofs.TurnLaws.{level_groups, asked, seed_room, answered}
-use mathlib.Core.Path.{◌≡◌, refl, sym, ap, ◌∙◌, subst}
 use native.Mathlib.Omega.{arith}
-use borrow.Author.Rules.{rules}
 use Rattle.sweep.proofs.turning.serve.Goals as goal
 
 pub keys_of-keys-requires : goal.keys_of-keys-requires

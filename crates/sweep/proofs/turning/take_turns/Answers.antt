@@ -1,24 +1,11 @@
 use Rattle.sweep.proofs.StepLaws.{behind_oldest, behind_next, turn_of, buffers_moved, ends_all, ends_at, goes_on, order_few, ring_shape, ring_room, caches_in, caches_out, first_in, first_out, reach_out}
-use Rattle.sweep.specs.Serving.{Serves}
-use Rattle.sweep.specs.Sweeping.{view_at, Starting, Sweeping, Buffers}
 use Rattle.window.proofs.WindowLaws.{is_empty, not_empty, end}
-use Rattle.window.specs.Window.{state}
 use Rattle.rules.specs.declared.Settings.{Settings}
-use Rattle.rules.specs.Order.{Input}
-use borrow.Author.Tests.{not-true, not-false}
-use lib.ListN.{length}
-use Prim.Native.Nat.{ℕ, ◌+◌, ◌-◌, ◌<◌, ◌≤◌}
-use mathlib.Core.List.{List}
-use mathlib.Core.Bool.{Bool, true, false, not, true≢false}
-use mathlib.Core.Logic.{⊎_elim}
-use mathlib.Core.Path.{◌≡◌, refl, sym, ap, ◌∙◌, subst}
+use mathlib.Core.Bool.{true≢false}
+use mathlib.Core.Path.{refl, sym, ap, ◌∙◌}
 use native.Mathlib.Omega.{arith}
-use borrow.Author.Rules.{rules}
 use Rattle.sweep.proofs.turning.take_turns.Goals as goal
-
-both_off : (b : Bool) → b ≡ false → not b ≡ false → ⊥
-both_off true p q = true≢false p
-both_off false p q = true≢false q
+use Rattle.sweep.proofs.turning.take_turns.Goals.{then-v-eq0+else-not-bump, else-v-eq0}
 
 pub loop-g-init : goal.loop-g-init
 loop-g-init c = (λ i pre h. h.sweeping, refl, refl, refl)
@@ -79,8 +66,8 @@ serve-v-requires c =
     let t = c.take-t.ensures.turned i _ _ h.ranged f in
     let e = c.requires.ring_value in
     let a = c.advance-first_slot.ensures in
-    let u = turn_of o h.range h.fresh t (first_out h.level e _ o a.0.0) (reach_out h.level e _ o a.0.1) c.take-t.ensures.oldest_le_bucket in
-    let w = buffers_moved sw.buffers (caches_out h.level e a.1) c.advance-first_slot.auto.work in
+    let u = turn_of o h.range h.fresh t (first_out h.level e _ o a.upper_bound.0) (reach_out h.level e _ o a.upper_bound.1) c.take-t.ensures.oldest_le_bucket in
+    let w = buffers_moved sw.buffers (caches_out h.level e a.caches_2) c.advance-first_slot.auto.work in
     record {
       ring_value = e;
       serves = record { i = i; pre = pre; lo = _; hi = _; k = _; first = _; level = h.level; buffers = w; turn = u };
@@ -114,10 +101,10 @@ returns-then-not-bump c = λ i pre h.
     let t = c.take-t.ensures.turned i _ _ h.ranged f in
     let e = c.requires.ring_value in
     let a = c.advance-first_slot.ensures in
-    let u = turn_of o h.range h.fresh t (first_out h.level e _ o a.0.0) (reach_out h.level e _ o a.0.1) c.take-t.ensures.oldest_le_bucket in
-    let w = buffers_moved sw.buffers (caches_out h.level e a.1) c.advance-first_slot.auto.work in
+    let u = turn_of o h.range h.fresh t (first_out h.level e _ o a.upper_bound.0) (reach_out h.level e _ o a.upper_bound.1) c.take-t.ensures.oldest_le_bucket in
+    let w = buffers_moved sw.buffers (caches_out h.level e a.caches_2) c.advance-first_slot.auto.work in
     let v = c.serve-v.ensures i pre _ _ _ _ h.level w u in
-    ends_at u v sw.no_zero (not-true _ c.if-not-bump.true-raw) c.if-v-eq0.true
+    ends_at u v sw.no_zero c.if-not-bump.true c.if-v-eq0.true
 
 pub loop-g-smaller : goal.loop-g-smaller
 loop-g-smaller c =
@@ -139,14 +126,14 @@ loop-g-preserved c = (
       let t = c.take-t.ensures.turned i _ _ h.ranged f in
       let e = c.requires.ring_value in
       let a = c.advance-first_slot.ensures in
-      let u = turn_of o h.range h.fresh t (first_out h.level e _ o a.0.0) (reach_out h.level e _ o a.0.1) c.take-t.ensures.oldest_le_bucket in
-      let w = buffers_moved sw.buffers (caches_out h.level e a.1) c.advance-first_slot.auto.work in
+      let u = turn_of o h.range h.fresh t (first_out h.level e _ o a.upper_bound.0) (reach_out h.level e _ o a.upper_bound.1) c.take-t.ensures.oldest_le_bucket in
+      let w = buffers_moved sw.buffers (caches_out h.level e a.caches_2) c.advance-first_slot.auto.work in
       let v = c.serve-v.ensures i pre _ _ _ _ h.level w u in
       record {
         windowed = t.windowed;
         buffers = v.buffers;
-        behind = behind_next f t.some (omega (arith, u.high)) (first_out h.level e _ o a.0.0);
-        no_zero = goes_on u v sw.no_zero (λ q. ⊎_elim (λ x. absurd (both_off _ q x.1.left)) (λ x. x.left) c.if-v-eq0.branch);
+        behind = behind_next f t.some (omega (arith, u.high)) (first_out h.level e _ o a.upper_bound.0);
+        no_zero = goes_on u v sw.no_zero (λ q. elim c.if-v-eq0.branch [ then-v-eq0+else-not-bump w ↦ absurd (true≢false (sym w.if-not-bump.false ∙ q)) | else-v-eq0 w ↦ w.if-v-eq0.false ]);
       },
   c.serve-v.auto.seeds ∙ c.loop-g.invariant.1,
   c.serve-v.auto.bitmap ∙ c.loop-g.invariant.2,

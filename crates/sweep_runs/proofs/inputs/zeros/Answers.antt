@@ -2,7 +2,6 @@
 use mathlib.Core.Path.{sym}
 use native.Mathlib.Omega.{arith}
 use lib.Seq.{length-take-le}
-use borrow.Author.Rules.{rules}
 use Rattle.sweep_runs.proofs.inputs.zeros.Goals as goal
 
 pub slice_bounds-one-end : goal.slice_bounds-one-end

@@ -1,7 +1,5 @@
 -- The index rises, and is read only below the length.
-use Prim.Native.Nat.{◌≤◌, ◌-◌}
 use native.Mathlib.Omega.{arith}
-use borrow.Author.Rules.{rules}
 use Rattle.sweep_runs.proofs.lending.end_of.Goals as goal
 
 pub loop-i-init : goal.loop-i-init

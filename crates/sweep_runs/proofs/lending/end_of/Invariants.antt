@@ -1,7 +1,5 @@
 -- The index rises, and is read only below the length.
-use Prim.Native.Nat.{◌≤◌, ◌-◌}
-use native.Mathlib.Omega.{arith}
-use borrow.Author.Rules.{rules}
+use Prim.Native.Nat.{◌-◌}
 use Rattle.sweep_runs.proofs.lending.end_of.Given as goal
 
 abbrev pub invariant-loop-i : goal.invariant-loop-i

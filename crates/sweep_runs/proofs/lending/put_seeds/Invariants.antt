@@ -1,7 +1,5 @@
 -- Each of the 6 entries is printed: the index stays below 6.
 use Prim.Native.Nat.{◌≤◌, ◌-◌}
-use native.Mathlib.Omega.{arith}
-use borrow.Author.Rules.{rules}
 use Rattle.sweep_runs.proofs.lending.put_seeds.Given as goal
 
 abbrev pub invariant-loop-i : goal.invariant-loop-i
