@@ -216,7 +216,7 @@ module _ (bytes : List ℕ) where
       carry (λ x k. Accepted seedRoom holeRoom x) (level_of s c.value d.value) l d.at end d.rest
       (record {
         described = describes s c.value d.value at c.at d.at head.stand seeds.stand part.stand part.over;
-        writable = record { good = head.good; many = seeds.many; seeds_fine_lem = seeds.fine; holes_fine_lem = part.fine };
+        writable = record { good = head.good; many = seeds.many; fine_seeds = seeds.fine; fine_holes = part.fine };
         seeds_fit = ltb-false seedRoom s.buckets i.0;
         holes_fit = part.fits;
       })

@@ -143,11 +143,11 @@ module _ (bytes : List ℕ) where
       let p = decodes_part bytes (1 ∷ settings_numbers s) (l.seeds ++ tail) 0 (length bytes) d in
       let q = decodes_part bytes l.seeds tail p.mid (length bytes) p.back in
       let seeds : numbers_at bytes (seed_bad s) (length l.seeds) p.mid ≡ Got l.seeds q.mid =
-      numbers_read (seed_bad s) l.seeds p.mid q.mid w.seeds_fine_lem q.front in
+      numbers_read (seed_bad s) l.seeds p.mid q.mid w.fine_seeds q.front in
       then_got (head_at bytes) _ s p.mid (head_read s w.good p.mid p.front)
       ∙ if_not (ltb seedRoom s.buckets) 26 _ (le-ltb seedRoom s.buckets seedsFit)
       ∙ then_got (numbers_at bytes (seed_bad s) s.buckets p.mid) _ l.seeds q.mid (ap (λ (n : ℕ). numbers_at bytes (seed_bad s) n p.mid) (sym w.many) ∙ seeds)
-      ∙ then_got (hole_part bytes s.m holeRoom q.mid) _ l.holes (length bytes) (part_read s.m holeRoom l.holes q.mid w.holes_fine_lem holesFit q.back)
+      ∙ then_got (hole_part bytes s.m holeRoom q.mid) _ l.holes (length bytes) (part_read s.m holeRoom l.holes q.mid w.fine_holes holesFit q.back)
 
 -- ---- what is written
 
@@ -176,15 +176,15 @@ numbers_small l w =
     let s : Settings = l.settings in
     let g : Good s = w.good in
     let m : s.m < 2 ^ 64 = omega (arith, g.m_high) in
-    let few : length l.holes < 2 ^ 64 = omega (arith, holes_few s.m 0 0 l.holes w.holes_fine_lem) in
+    let few : length l.holes < 2 ^ 64 = omega (arith, holes_few s.m 0 0 l.holes w.fine_holes) in
     small_cons 1 _ (omega arith)
     (small_cons s.m _ m
     (small_cons s.log2_slice_len _ (omega (arith, g.slice_high))
     (small_cons s.ll _ (omega (arith, g.ll_high))
     (small_cons s.sb _ (omega (arith, g.sb_high))
     (small_cons s.buckets _ (omega (arith, g.buckets_high))
-    (seeds_small s g l.seeds _ w.seeds_fine_lem
-    (small_cons (length l.holes) _ few (gaps_small s.m m 0 0 l.holes w.holes_fine_lem))))))))
+    (seeds_small s g l.seeds _ w.fine_seeds
+    (small_cons (length l.holes) _ few (gaps_small s.m m 0 0 l.holes w.fine_holes))))))))
 
 -- The file of a level that can be written describes it.
 pub file_describes : (l : Level) → Writable l → Describes (file_of l) l

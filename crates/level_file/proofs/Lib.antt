@@ -1,5 +1,4 @@
 -- What several proofs cite, and the two theorems on files.
-mod Lent
 mod TakingLaws
 mod ClearLaws
 pub mod DecodesLaws

@@ -54,14 +54,14 @@ pub file_room : (l : Level) → Writable l → length (file_of l) ≤ 16 + 3 * l
 file_room l w =
     let s : Settings = l.settings in
     let g : Good s = w.good in
-    let count : length l.holes ≤ s.m = omega (arith, holes_few s.m 0 0 l.holes w.holes_fine_lem) in
+    let count : length l.holes ≤ s.m = omega (arith, holes_few s.m 0 0 l.holes w.fine_holes) in
     omega (
       arith,
       file_length l,
       head_length s,
       w.many,
-      seeds_room s g l.seeds w.seeds_fine_lem,
-      gaps_room s.m g.m_high 0 0 l.holes w.holes_fine_lem,
+      seeds_room s g l.seeds w.fine_seeds,
+      gaps_room s.m g.m_high 0 0 l.holes w.fine_holes,
       four (length l.holes) (omega (arith, g.m_high)),
       length_small 1 (omega arith),
       four s.m (omega (arith, g.m_high)),

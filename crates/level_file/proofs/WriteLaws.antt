@@ -78,7 +78,7 @@ module _ (l : Level) (room : ℕ) where
 
   -- The number is 0 where the level can be written and has room,
   pub writes : Writable l → length (file_of l) ≤ room → write_number l room ≡ 0
-  writes w fits = sym (number_0 (good_7 l.settings w.good) w.many (both_fine (is_true _ w.seeds_fine_lem) (is_true _ w.holes_fine_lem)) fits)
+  writes w fits = sym (number_0 (good_7 l.settings w.good) w.many (both_fine (is_true _ w.fine_seeds) (is_true _ w.fine_holes)) fits)
 
   -- and nowhere else.
   pub wrote : write_number l room ≡ 0 → Writable l × (length (file_of l) ≤ room)
@@ -92,8 +92,8 @@ module _ (l : Level) (room : ℕ) where
         record {
           good = passes_7 l.settings both.0;
           many = eqb-true (length l.seeds) l.settings.buckets (not-false _ (is_false (not (eqb (length l.seeds) l.settings.buckets)) none.0));
-          seeds_fine_lem = and_left a b fine;
-          holes_fine_lem = and_right a b fine;
+          fine_seeds = and_left a b fine;
+          fine_holes = and_right a b fine;
         },
         ltb-false room (length (file_of l)) (is_false (ltb room (length (file_of l))) none.1.1.0),
       )
@@ -106,7 +106,7 @@ climbs m before least [] fine = tt
 climbs m before least (h ∷ hs) fine = let f = hole_facts m before least h hs fine in (omega (arith, f.0), climbs m h 1 hs f.2)
 
 pub writable_climbs : (l : Level) → Writable l → Climbs 0 l.holes
-writable_climbs l w = climbs l.settings.m 0 0 l.holes w.holes_fine_lem
+writable_climbs l w = climbs l.settings.m 0 0 l.holes w.fine_holes
 
 module _ (l : Level) where
   head : List ℕ

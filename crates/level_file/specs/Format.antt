@@ -61,8 +61,8 @@ holes_fine m before least (h ∷ hs) = (leb (before + least) h && ltb h m) && ho
 pub record Writable (l : Level) : Type 0 where
   pub good : Good l.settings
   pub many : length l.seeds ≡ l.settings.buckets
-  pub seeds_fine_lem : T (seeds_fine l.settings l.seeds)
-  pub holes_fine_lem : T (holes_fine l.settings.m 0 0 l.holes)
+  pub fine_seeds : T (seeds_fine l.settings l.seeds)
+  pub fine_holes : T (holes_fine l.settings.m 0 0 l.holes)
 
 -- ---- which files describe a level
 
