@@ -7,7 +7,7 @@ use mathlib.Core.List.{List, []}
 use lib.IntN.{ℤ}
 use lib.ListN.{length, get_or}
 use Rattle.rules.specs.declared.Settings.{Settings}
-use Rattle.rules.specs.Order.{Input, input_of}
+use Rattle.rules.specs.Order.{input_of}
 use Rattle.rules.specs.Numbers.{rising}
 use Rattle.rules.proofs.InputLaws.{steps_rising}
 use Rattle.rules.proofs.Tests.{is_true}

@@ -1,17 +1,15 @@
 -- What a hole list, a sweep and the parts of the numbers say of the text that is printed: each answer undone by its `said..`.
 -- Assumes nothing.
-use Prim.Native.Nat.{ℕ, zero, suc, ◌+◌, ◌/◌, ◌≤◌, ◌<◌}
+use Prim.Native.Nat.{ℕ, zero, suc, ◌+◌, ◌≤◌}
 use native.Mathlib.Omega.{arith}
 use mathlib.Core.Path.{◌≡◌, refl, sym, ap, ◌∙◌}
-use mathlib.Core.Logic.{◌≢◌}
-use mathlib.Core.Bool.{Bool, true, false}
+use mathlib.Core.Bool.{Bool}
 use mathlib.Core.List.{List, [], ◌∷◌, ◌++◌}
 use mathlib.Core.Option.{Option, none, some}
 use lib.ListN.{length, get_or, take, drop}
 use lib.Seq.{sets, sets-eq, take_at, length-sets}
 use Rattle.rules.specs.declared.Counts.{Counts}
 use Rattle.rules.specs.declared.Named.{Named}
-use Rattle.rules.specs.declared.Outcome.{Outcome}
 use Rattle.rules.specs.declared.Outcome.TheVariants as Ended
 use Rattle.rules.specs.declared.SweepRecord.{SweepRecord}
 use Rattle.rules.specs.declared.Listed.{Listed}
@@ -21,7 +19,7 @@ use Rattle.rules.specs.Chunks.{in_one}
 use Rattle.rules.specs.Holes.{holes_of}
 use Rattle.rules.specs.Numbers.{Lent, lent_of, first_of, holes_lines, bitmap_words}
 use Rattle.rules.specs.Sweep.{final_seeds, final_bitmap}
-use Rattle.rules.specs.Answers.{Said, Answer, Refusal, named_by, count_values, counts_of, said_outcome, said_sweep, said_listed, unless, kept_unless, ran_answer, ran_buffer, holes_answer, holes_out, sweep_turns, stops_at, sweep_number, sweep_answer, sweep_seeds, sweep_bitmap}
+use Rattle.rules.specs.Answers.{Said, Answer, Refusal, named_by, count_values, counts_of, said_outcome, said_sweep, said_listed, holes_answer, holes_out, sweep_turns, stops_at, sweep_number, sweep_answer, sweep_seeds, sweep_bitmap}
 use Rattle.rules.proofs.AnswerLaws.{unless_zero, kept_zero, sweep_refused, sweep_done, sweep_stopped}
 use Rattle.rules.proofs.InputLaws.{passes}
 use Rattle.holes.proofs.Walk.{holes_length}

@@ -1,14 +1,13 @@
 -- The listing from the end of a scan: 18 where it does not end well, 19 where there were more numbers than the program keeps, and else
 -- the listing of the numbers kept. Assumes nothing.
-use Rattle.std.specs.Prelude.{ℕ, ◌≤◌, ◌<◌, min, ◌≡◌, true, false, List, [], length, take}
+use Rattle.std.specs.Prelude.{ℕ, ◌≤◌, ◌<◌, ◌≡◌, true, false, List, [], length, take}
 use Rattle.std.proofs.Common.{arith, sym, ap, ◌∙◌}
 use Rattle.std.proofs.Math.Path.{refl}
-use Rattle.std.proofs.Math.Option.{Option}
-use Rattle.list_input.specs.Form.{well_formed, form_of}
+use Rattle.list_input.specs.Form.{well_formed}
 use Rattle.list_input.specs.Asked.{over_size}
 use Rattle.list_input.specs.AskedLaws.{over_many}
 use Rattle.list_input.specs.Scan.{scan_start, fed_scan, fed_numbers, scan_ends}
-use Rattle.list_input.specs.Heard.{Formed, formed, unformed, kept_front}
+use Rattle.list_input.specs.Heard.{formed, unformed, kept_front}
 use Rattle.list_output.specs.Text.{refused_text}
 use Rattle.listing.specs.Listing.{asked_text, formed_text, listing_of}
 

@@ -1,5 +1,6 @@
 // The sweep list program's library: from the bytes read to the bytes printed.
 #![tactic(auto)]
+
 ghost use Rattle.std.specs.Prelude.{◌≡◌, true, ◌+◌, ◌≤◌, length};
 ghost use Rattle.rules.specs.Numbers.{rising};
 ghost use Rattle.listing.specs.Work.{WorkTest};

@@ -2,10 +2,9 @@
 -- Assumes nothing.
 use lib.Seq.{length-take-le}
 use native.Mathlib.Omega.{arith}
-use mathlib.Core.Path.{◌≡◌, refl, sym, ap, ◌∙◌}
+use mathlib.Core.Path.{sym, ◌∙◌}
 use Rattle.rules.specs.Answers.{named_by}
 use Rattle.listing.proofs.FedLaws.{finished_by, unformed_text, many_text, kept_text, kept_well}
-use borrow.Author.Rules.{rules}
 use Rattle.listing.proofs.finish.Goals as goal
 
 pub returns-then-not-scan_ends : goal.returns-then-not-scan_ends

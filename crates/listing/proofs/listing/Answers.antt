@@ -1,12 +1,10 @@
 -- `listing` feeds all the bytes and finishes; a short buffer is left as it was.
 -- Assumes nothing.
-use lib.ListN.{length}
 use native.Mathlib.Omega.{arith}
-use mathlib.Core.List.{[], ◌++◌}
-use mathlib.Core.Path.{◌≡◌, refl, sym, ap, ◌∙◌}
-use Rattle.listing.specs.Fed.{Fed, FedBy, Listing}
-use Rattle.listing.proofs.FedLaws.{fed_size, fed_none, fed_more}
-use borrow.Author.Rules.{rules}
+use mathlib.Core.List.{[]}
+use mathlib.Core.Path.{refl, sym}
+use Rattle.listing.specs.Fed.{FedBy}
+use Rattle.listing.proofs.FedLaws.{fed_none, fed_more}
 use Rattle.listing.proofs.listing.Goals as goal
 use Rattle.listing.proofs.listing.Goals.{After-feed-scan}
 

@@ -8,7 +8,6 @@ use Rattle.rules.proofs.CheckLaws.{passes_7, good_usable}
 use borrow.Author.Tests.{lt-ltb}
 use mathlib.Core.Path.{◌≡◌, refl, sym, ◌∙◌}
 use native.Mathlib.Omega.{arith}
-use borrow.Author.Rules.{rules}
 use Rattle.listing.proofs.over_work.Goals as goal
 
 pub returns-then-number_to_7-ne0 : goal.returns-then-number_to_7-ne0

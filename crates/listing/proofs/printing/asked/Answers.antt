@@ -3,7 +3,7 @@
 use lib.Seq.{sets, length-take-le}
 use Rattle.rules.specs.Answers.{named_by}
 use lib.ListN.{length, take, replicate}
-use Prim.Native.Nat.{ℕ, ◌+◌, ◌≤◌}
+use Prim.Native.Nat.{◌+◌, ◌≤◌}
 use native.Mathlib.Omega.{arith}
 use mathlib.Core.Bool.{false}
 use mathlib.Core.Path.{◌≡◌, refl, sym, ap, ◌∙◌}
@@ -12,7 +12,6 @@ use Rattle.list_input.specs.AskedLaws.{long_enough, keys_most, begins_most}
 use Rattle.listing.specs.Ends.{asked_over}
 use Rattle.listing.proofs.AskedText.{few_buckets, few_slots, ends_are, long_begins, groups_are, begins_climb, text_over, text_swept}
 use Rattle.listing.proofs.PrintLaws.{front_is, sets_long}
-use borrow.Author.Rules.{rules}
 use Rattle.listing.proofs.printing.asked.Goals as goal
 use Rattle.listing.proofs.printing.asked.Goals.{After-settings_of-settings}
 

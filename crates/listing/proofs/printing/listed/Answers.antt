@@ -10,7 +10,6 @@ use Rattle.list_output.specs.Text.{done_text}
 use Rattle.rules.specs.declared.Listed.TheVariants as Hole
 use Rattle.rules.specs.Holes.{holes_of}
 use Rattle.listing.proofs.PrintLaws.{holes_fit, holes_count, holes_never, holes_front}
-use borrow.Author.Rules.{rules}
 use Rattle.listing.proofs.printing.listed.Goals as goal
 use Rattle.listing.proofs.printing.listed.Goals.{After-holes}
 

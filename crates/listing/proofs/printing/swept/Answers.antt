@@ -2,16 +2,14 @@
 -- Assumes nothing.
 use lib.Seq.{sets}
 use lib.ListN.{length}
-use Prim.Native.Nat.{ℕ, ◌<◌}
 use native.Mathlib.Omega.{arith}
-use mathlib.Core.Path.{◌≡◌, refl, sym, ap, ◌∙◌}
+use mathlib.Core.Path.{◌≡◌, sym, ap, ◌∙◌}
 use Rattle.rules.specs.Numbers.{lent_of}
 use Rattle.rules.specs.Order.{Input, input_of}
 use Rattle.rules.specs.declared.Outcome.TheVariants as Ended
 use Rattle.rules.specs.declared.Counts.{Counts}
 use Rattle.listing.specs.Listing.{lent_by}
 use Rattle.listing.proofs.PrintLaws.{Swept, lent_same, swept_refused, swept_done, swept_text_lem}
-use borrow.Author.Rules.{rules}
 use Rattle.listing.proofs.printing.swept.Goals as goal
 use Rattle.listing.proofs.printing.swept.Goals.{After-sweep-r}
 

@@ -6,10 +6,9 @@ use lib.Seq.{length-take-le}
 use Prim.Native.Nat.{ℕ}
 use native.Mathlib.Omega.{arith}
 use mathlib.Core.List.{List}
-use mathlib.Core.Path.{◌≡◌, refl, sym, ap, ◌∙◌}
+use mathlib.Core.Path.{refl, sym, ap, ◌∙◌}
 use Rattle.rules.specs.Order.{input_of}
 use Rattle.listing.specs.Listing.{swept_text}
-use borrow.Author.Rules.{rules}
 use Rattle.listing.proofs.printing.swept_alone.Goals as goal
 
 pub slice_bounds-swept-end-2 : goal.slice_bounds-swept-end-2
