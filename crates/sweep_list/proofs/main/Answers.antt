@@ -3,12 +3,11 @@
 use Rattle.list_input.specs.declared.Scan.{Scan}
 use Rattle.list_input.specs.Scan.{fed_scan, fed_numbers}
 use Prim.Native.Nat.{ℕ}
-use Rattle.listing.specs.Fed.{Fed, FedBy}
+use Rattle.listing.specs.Fed.{Fed}
 use Rattle.listing.proofs.FedLaws.{fed_none, fed_more}
-use mathlib.Core.Path.{◌≡◌, refl, sym, ap, ◌∙◌}
+use mathlib.Core.Path.{◌≡◌, refl, sym, ◌∙◌}
 use mathlib.Core.List.{List, [], ◌++◌}
 use native.Mathlib.Omega.{arith}
-use lib.ListN.{length}
 use lib.Seq.{length-take-le}
 use borrow.Author.Rules.{rules}
 use Rattle.sweep_list.proofs.main.Goals as goal
@@ -31,7 +30,7 @@ pub finish-end-requires : goal.finish-end-requires
 finish-end-requires c =
     record {
       fed = elim c.loop-turns-test.branch [
-          else-loop-turns-test w ↦ rw (w.scan-is, w.numbers-is) c.loop-turns.invariant.0
+        | else-loop-turns-test w ↦ rw (w.scan-is, w.numbers-is) c.loop-turns.invariant.0
         | then-loop-turns-test+then-n-lt65536 w ↦ rw (w.scan-is, w.numbers-is) (fed_on _ _ _ _ _ c.loop-turns.invariant.0 w.feed-scan.ensures.value w.feed-scan.ensures.numbers_after)
       ];
       in_bounds = omega (arith, c.large_buffer-out.ensures);
