@@ -37,7 +37,9 @@ z_is c = c.largest_size-z.ensures.0.same (input_of c.args.g.settings c.args.weig
 
 no_10 : (c : goal.Else-z-gt4096) → test10 (input_of c.args.g.settings c.args.weights c.args.hashes.now c.args.begins.now c.args.table.now) ≡ false
 unfolding largest
-no_10 c = few_keys (input_of c.args.g.settings c.args.weights c.args.hashes.now c.args.begins.now c.args.table.now) (omega (arith, c.largest_size-z.ensures.0.same (input_of c.args.g.settings c.args.weights c.args.hashes.now c.args.begins.now c.args.table.now) refl, c.if-z-gt4096.false))
+no_10 c =
+    let i = input_of c.args.g.settings c.args.weights c.args.hashes.now c.args.begins.now c.args.table.now in
+    few_keys i (omega (arith, c.largest_size-z.ensures.0.same i refl, c.if-z-gt4096.false))
 
 no_11 : (c : goal.Else-strayed) → test11 (input_of c.args.g.settings c.args.weights c.args.hashes.now c.args.begins.now c.args.table.now) ≡ false
 no_11 c = sym (c.strayed.ensures.is (input_of c.args.g.settings c.args.weights c.args.hashes.now c.args.begins.now c.args.table.now) refl refl refl) ∙ c.if-strayed.false
@@ -60,7 +62,9 @@ largest_size-z-requires c =
     record { buckets_in_bounds = whole.0; buckets_value = whole.1 }
 
 pub returns-then-z-gt4096 : goal.returns-then-z-gt4096
-returns-then-z-gt4096 c = examined c.refused-then-z-gt4096.ensures (is_10 _ (input_of c.args.g.settings c.args.weights c.args.hashes.now c.args.begins.now c.args.table.now) (no_8 (goal.at.returns-then-z-gt4096 c).Else-heavy) (no_20 (goal.at.returns-then-z-gt4096 c).Else-how-eq0) (no_9 (goal.at.returns-then-z-gt4096 c).Else-begins_bad) (many_keys (input_of c.args.g.settings c.args.weights c.args.hashes.now c.args.begins.now c.args.table.now) (omega (arith, z_is (goal.at.returns-then-z-gt4096 c).After-largest_size-z, c.if-z-gt4096.true)))) (λ z. omega arith)
+returns-then-z-gt4096 c =
+    let i = input_of c.args.g.settings c.args.weights c.args.hashes.now c.args.begins.now c.args.table.now in
+    examined c.refused-then-z-gt4096.ensures (is_10 _ i (no_8 (goal.at.returns-then-z-gt4096 c).Else-heavy) (no_20 (goal.at.returns-then-z-gt4096 c).Else-how-eq0) (no_9 (goal.at.returns-then-z-gt4096 c).Else-begins_bad) (many_keys i (omega (arith, z_is (goal.at.returns-then-z-gt4096 c).After-largest_size-z, c.if-z-gt4096.true)))) (λ z. omega arith)
 
 pub strayed-requires : goal.strayed-requires
 strayed-requires c =
@@ -70,7 +74,9 @@ strayed-requires c =
     }
 
 pub returns-then-strayed : goal.returns-then-strayed
-returns-then-strayed c = examined c.refused-then-strayed.ensures (is_11 _ (input_of c.args.g.settings c.args.weights c.args.hashes.now c.args.begins.now c.args.table.now) (no_8 (goal.at.returns-then-strayed c).Else-heavy) (no_20 (goal.at.returns-then-strayed c).Else-how-eq0) (no_9 (goal.at.returns-then-strayed c).Else-begins_bad) (no_10 (goal.at.returns-then-strayed c).Else-z-gt4096) (sym (c.strayed.ensures.is (input_of c.args.g.settings c.args.weights c.args.hashes.now c.args.begins.now c.args.table.now) refl refl refl) ∙ c.if-strayed.true)) (λ z. omega arith)
+returns-then-strayed c =
+    let i = input_of c.args.g.settings c.args.weights c.args.hashes.now c.args.begins.now c.args.table.now in
+    examined c.refused-then-strayed.ensures (is_11 _ i (no_8 (goal.at.returns-then-strayed c).Else-heavy) (no_20 (goal.at.returns-then-strayed c).Else-how-eq0) (no_9 (goal.at.returns-then-strayed c).Else-begins_bad) (no_10 (goal.at.returns-then-strayed c).Else-z-gt4096) (sym (c.strayed.ensures.is i refl refl refl) ∙ c.if-strayed.true)) (λ z. omega arith)
 
 pub table_bad-requires : goal.table_bad-requires
 unfolding entries

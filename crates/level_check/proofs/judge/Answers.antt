@@ -3,7 +3,6 @@ use lib.ListN.{length}
 use native.Mathlib.Omega.{arith}
 use Rattle.level_check.proofs.Judging.{blank, refill, says_28, says_29, says_30, says_accepted}
 use Rattle.level_check.proofs.judge.Goals as goal
-use Rattle.level_check.proofs.judge.Goals.{Start}
 
 pub returns-then-seeds_bad : goal.returns-then-seeds_bad
 returns-then-seeds_bad c =

@@ -8,7 +8,6 @@ use Prim.Native.Nat.{ℕ, ◌≤◌, ◌<◌}
 use mathlib.Core.List.{List}
 use mathlib.Core.Path.{◌≡◌, refl, ◌∙◌}
 use Rattle.window.proofs.fill.Goals as goal
-use Rattle.window.proofs.fill.Goals.{Start}
 
 oldest_low : {begins : List ℕ} {table : List ℤ} {hi : ℕ} {s : State} → Entering begins table hi s → s.oldest ≤ 67108865
 oldest_low {s = s} d = omega (arith, d.ranged.few, d.window.end, asc_room s.oldest s.next d.window.inside d.window.holds.asc)

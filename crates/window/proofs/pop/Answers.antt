@@ -7,7 +7,7 @@ use mir.Val.{to_z, of_z}
 use mir.Facts.{to_z-of_z}
 use Rattle.window.specs.Changes.{Choice}
 use Rattle.window.proofs.pop.Goals as goal
-use Rattle.window.proofs.pop.Goals.{After-whose-size, Start}
+use Rattle.window.proofs.pop.Goals.{After-whose-size}
 
 below_64 : (r : ℕ) → r ≤ 64 → (r ≡ 64 → ⊥) → r < 64
 below_64 r l n = omega arith

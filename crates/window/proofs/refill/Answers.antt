@@ -5,7 +5,6 @@ use mathlib.Core.Logic.{◌⊎◌}
 use mathlib.Core.List.{[]}
 use mathlib.Core.Path.{◌≡◌, sym, ap, ◌∙◌, subst}
 use Rattle.window.proofs.refill.Goals as goal
-use Rattle.window.proofs.refill.Goals.{Start}
 
 pub fill-requires : goal.fill-requires
 fill-requires c =

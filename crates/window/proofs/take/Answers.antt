@@ -8,7 +8,6 @@ use Prim.Native.Nat.{ℕ}
 use mathlib.Core.Path.{◌≡◌, ap, ◌∙◌}
 use mathlib.Core.List.{List}
 use Rattle.window.proofs.take.Goals as goal
-use Rattle.window.proofs.take.Goals.{Start}
 
 -- the set once a bucket is cleared
 cleared_long : (set set' : List ℕ) (b : ℕ) → set' ≡ cleared set b → length set ≡ 16 → length set' ≡ 16

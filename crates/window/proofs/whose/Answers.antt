@@ -7,7 +7,6 @@ use lib.IntN.{pos}
 use native.Mathlib.Omega.{arith}
 use mathlib.Core.Path.{◌≡◌}
 use Rattle.window.proofs.whose.Goals as goal
-use Rattle.window.proofs.whose.Goals.{Start}
 
 pub returns-then-nonempty-eq0 : goal.returns-then-nonempty-eq0
 returns-then-nonempty-eq0 c = only_large c.args.keys.now c.args.nonempty c.args.n c.args.largest c.if-nonempty-eq0.true (c.requires c.if-nonempty-eq0.true)

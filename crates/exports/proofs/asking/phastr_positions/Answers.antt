@@ -35,13 +35,15 @@ usable c = passes_6 (settings_of c.args.m c.args.log2_slice_len c.args.ll c.args
 pub returns-then-n-ne0 : goal.returns-then-n-ne0
 unfolding positions_number positions_slots positions_lines
 returns-then-n-ne0 c =
-    let whole = earlier (lines_to6 (settings_of c.args.m c.args.log2_slice_len c.args.ll c.args.sb c.args.buckets)) 13 (lent_wrong (settings_of c.args.m c.args.log2_slice_len c.args.ll c.args.sb c.args.buckets) c.args.seeds.now c.args.hashes.now c.args.slots.now) c.args.slots.now (wanted (settings_of c.args.m c.args.log2_slice_len c.args.ll c.args.sb c.args.buckets) c.args.seeds.now c.args.hashes.now) c.number_to_6-n.result c.number_to_6-n.ensures.0 c.if-n-ne0.true in
+    let s = settings_of c.args.m c.args.log2_slice_len c.args.ll c.args.sb c.args.buckets in
+    let whole = earlier (lines_to6 s) 13 (lent_wrong s c.args.seeds.now c.args.hashes.now c.args.slots.now) c.args.slots.now (wanted s c.args.seeds.now c.args.hashes.now) c.number_to_6-n.result c.number_to_6-n.ensures.0 c.if-n-ne0.true in
     record { answer = whole.0; found = whole.1 }
 
 pub returns-then-seeds-buckets : goal.returns-then-seeds-buckets
 unfolding positions_number positions_slots positions_lines
 returns-then-seeds-buckets c =
-    let whole = last (lines_to6 (settings_of c.args.m c.args.log2_slice_len c.args.ll c.args.sb c.args.buckets)) 13 (lent_wrong (settings_of c.args.m c.args.log2_slice_len c.args.ll c.args.sb c.args.buckets) c.args.seeds.now c.args.hashes.now c.args.slots.now) c.args.slots.now (wanted (settings_of c.args.m c.args.log2_slice_len c.args.ll c.args.sb c.args.buckets) c.args.seeds.now c.args.hashes.now) (numbered_6 (settings_of c.args.m c.args.log2_slice_len c.args.ll c.args.sb c.args.buckets)) (none (goal.at.returns-then-seeds-buckets c).Else-n-ne0) (λ q. omega arith)
+    let s = settings_of c.args.m c.args.log2_slice_len c.args.ll c.args.sb c.args.buckets in
+    let whole = last (lines_to6 s) 13 (lent_wrong s c.args.seeds.now c.args.hashes.now c.args.slots.now) c.args.slots.now (wanted s c.args.seeds.now c.args.hashes.now) (numbered_6 s) (none (goal.at.returns-then-seeds-buckets c).Else-n-ne0) (λ q. omega arith)
     (or_left (not (eqb (length c.args.seeds.now) c.args.buckets)) (not (eqb (length c.args.slots.now) (length c.args.hashes.now)))
     (neq→neqb (length c.args.seeds.now) c.args.buckets c.if-seeds-buckets.true)) in
     record { answer = whole.0; found = whole.1 }
@@ -49,7 +51,8 @@ returns-then-seeds-buckets c =
 pub returns-then-slots-hashes : goal.returns-then-slots-hashes
 unfolding positions_number positions_slots positions_lines
 returns-then-slots-hashes c =
-    let whole = last (lines_to6 (settings_of c.args.m c.args.log2_slice_len c.args.ll c.args.sb c.args.buckets)) 13 (lent_wrong (settings_of c.args.m c.args.log2_slice_len c.args.ll c.args.sb c.args.buckets) c.args.seeds.now c.args.hashes.now c.args.slots.now) c.args.slots.now (wanted (settings_of c.args.m c.args.log2_slice_len c.args.ll c.args.sb c.args.buckets) c.args.seeds.now c.args.hashes.now) (numbered_6 (settings_of c.args.m c.args.log2_slice_len c.args.ll c.args.sb c.args.buckets)) (none (goal.at.returns-then-slots-hashes c).Else-n-ne0) (λ q. omega arith)
+    let s = settings_of c.args.m c.args.log2_slice_len c.args.ll c.args.sb c.args.buckets in
+    let whole = last (lines_to6 s) 13 (lent_wrong s c.args.seeds.now c.args.hashes.now c.args.slots.now) c.args.slots.now (wanted s c.args.seeds.now c.args.hashes.now) (numbered_6 s) (none (goal.at.returns-then-slots-hashes c).Else-n-ne0) (λ q. omega arith)
     (or_right (not (eqb (length c.args.seeds.now) c.args.buckets)) (not (eqb (length c.args.slots.now) (length c.args.hashes.now)))
     (neq→neqb (length c.args.slots.now) (length c.args.hashes.now) c.if-slots-hashes.true)) in
     record { answer = whole.0; found = whole.1 }
@@ -69,11 +72,12 @@ fill_slots-requires c =
 pub returns : goal.returns
 unfolding positions_number positions_slots positions_lines
 returns c =
-    let d = done (lines_to6 (settings_of c.args.m c.args.log2_slice_len c.args.ll c.args.sb c.args.buckets)) 13 (lent_wrong (settings_of c.args.m c.args.log2_slice_len c.args.ll c.args.sb c.args.buckets) c.args.seeds.now c.args.hashes.now c.args.slots.now) c.args.slots.now (wanted (settings_of c.args.m c.args.log2_slice_len c.args.ll c.args.sb c.args.buckets) c.args.seeds.now c.args.hashes.now) (numbered_6 (settings_of c.args.m c.args.log2_slice_len c.args.ll c.args.sb c.args.buckets)) (none (goal.at.returns c).Else-n-ne0)
+    let s = settings_of c.args.m c.args.log2_slice_len c.args.ll c.args.sb c.args.buckets in
+    let d = done (lines_to6 s) 13 (lent_wrong s c.args.seeds.now c.args.hashes.now c.args.slots.now) c.args.slots.now (wanted s c.args.seeds.now c.args.hashes.now) (numbered_6 s) (none (goal.at.returns c).Else-n-ne0)
     (not_or (not (eqb (length c.args.seeds.now) c.args.buckets)) (not (eqb (length c.args.slots.now) (length c.args.hashes.now)))
     (not_not (eqb (length c.args.seeds.now) c.args.buckets) (eq→eqb (length c.args.seeds.now) c.args.buckets c.if-seeds-buckets.false))
     (not_not (eqb (length c.args.slots.now) (length c.args.hashes.now)) (eq→eqb (length c.args.slots.now) (length c.args.hashes.now) c.if-slots-hashes.false))) in
-    let same = ap (λ (x : Settings). map (slot_of x c.args.seeds.now) c.args.hashes.now) (settings_are c.geometry_of.result (settings_of c.args.m c.args.log2_slice_len c.args.ll c.args.sb c.args.buckets) c.geometry_of.ensures) in
+    let same = ap (λ (x : Settings). map (slot_of x c.args.seeds.now) c.args.hashes.now) (settings_are c.geometry_of.result s c.geometry_of.ensures) in
     record {
       answer = d.0;
       found = c.fill_slots.ensures ∙ same ∙ d.1;

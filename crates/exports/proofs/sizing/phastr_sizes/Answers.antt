@@ -33,13 +33,15 @@ good c = passes_7 (settings_of c.args.m c.args.log2_slice_len c.args.ll c.args.s
 pub returns-then-n-ne0 : goal.returns-then-n-ne0
 unfolding sizes_number sizes_after sizes_lines
 returns-then-n-ne0 c =
-    let whole = earlier (lines_to7 (settings_of c.args.m c.args.log2_slice_len c.args.ll c.args.sb c.args.buckets)) 10 (ltb 4096 c.args.z) c.args.sizes.now (wanted (settings_of c.args.m c.args.log2_slice_len c.args.ll c.args.sb c.args.buckets) c.args.m c.args.z) c.number_to_7-n.result c.number_to_7-n.ensures.0 c.if-n-ne0.true in
+    let s = settings_of c.args.m c.args.log2_slice_len c.args.ll c.args.sb c.args.buckets in
+    let whole = earlier (lines_to7 s) 10 (ltb 4096 c.args.z) c.args.sizes.now (wanted s c.args.m c.args.z) c.number_to_7-n.result c.number_to_7-n.ensures.0 c.if-n-ne0.true in
     record { answer = whole.0; sized = whole.1 }
 
 pub returns-then-z-gt4096 : goal.returns-then-z-gt4096
 unfolding sizes_number sizes_after sizes_lines
 returns-then-z-gt4096 c =
-    let whole = last (lines_to7 (settings_of c.args.m c.args.log2_slice_len c.args.ll c.args.sb c.args.buckets)) 10 (ltb 4096 c.args.z) c.args.sizes.now (wanted (settings_of c.args.m c.args.log2_slice_len c.args.ll c.args.sb c.args.buckets) c.args.m c.args.z) (numbered_7 (settings_of c.args.m c.args.log2_slice_len c.args.ll c.args.sb c.args.buckets)) (none (goal.at.returns-then-z-gt4096 c).Else-n-ne0) (λ q. omega arith) (lt→ltb 4096 c.args.z c.if-z-gt4096.true) in
+    let s = settings_of c.args.m c.args.log2_slice_len c.args.ll c.args.sb c.args.buckets in
+    let whole = last (lines_to7 s) 10 (ltb 4096 c.args.z) c.args.sizes.now (wanted s c.args.m c.args.z) (numbered_7 s) (none (goal.at.returns-then-z-gt4096 c).Else-n-ne0) (λ q. omega arith) (lt→ltb 4096 c.args.z c.if-z-gt4096.true) in
     record { answer = whole.0; sized = whole.1 }
 
 pub geometry_of-g-requires : goal.geometry_of-g-requires
@@ -58,9 +60,10 @@ overflow_add-sizes c = record { fits = omega (arith, (good (goal.at.overflow_add
 pub returns : goal.returns
 unfolding sizes_number sizes_after sizes_lines
 returns c =
-    let w = c.work_words-words.ensures.0 ∙ ap (λ (x : Settings). work_words x c.args.z) (settings_are c.geometry_of-g.result (settings_of c.args.m c.args.log2_slice_len c.args.ll c.args.sb c.args.buckets) c.geometry_of-g.ensures) in
-    let e = entries_are c.geometry_of-g.result (settings_of c.args.m c.args.log2_slice_len c.args.ll c.args.sb c.args.buckets) c.geometry_of-g.ensures in
-    let d = done (lines_to7 (settings_of c.args.m c.args.log2_slice_len c.args.ll c.args.sb c.args.buckets)) 10 (ltb 4096 c.args.z) c.args.sizes.now (wanted (settings_of c.args.m c.args.log2_slice_len c.args.ll c.args.sb c.args.buckets) c.args.m c.args.z) (numbered_7 (settings_of c.args.m c.args.log2_slice_len c.args.ll c.args.sb c.args.buckets)) (none (goal.at.returns c).Else-n-ne0) (le→nltb 4096 c.args.z c.if-z-gt4096.false) in
+    let s = settings_of c.args.m c.args.log2_slice_len c.args.ll c.args.sb c.args.buckets in
+    let w = c.work_words-words.ensures.0 ∙ ap (λ (x : Settings). work_words x c.args.z) (settings_are c.geometry_of-g.result s c.geometry_of-g.ensures) in
+    let e = entries_are c.geometry_of-g.result s c.geometry_of-g.ensures in
+    let d = done (lines_to7 s) 10 (ltb 4096 c.args.z) c.args.sizes.now (wanted s c.args.m c.args.z) (numbered_7 s) (none (goal.at.returns c).Else-n-ne0) (le→nltb 4096 c.args.z c.if-z-gt4096.false) in
     record {
       answer = d.0;
       sized = ap₂ (λ (x y : ℕ). x ∷ y ∷ bitmap_words c.args.m ∷ []) w e ∙ d.1;

@@ -2,7 +2,6 @@ use Rattle.geometry.proofs.Sizes.{sized}
 use Rattle.rules.specs.Geometry as G
 use Rattle.std.proofs.Common.{ℕ, ◌*◌, ◌/◌, ◌^◌, ap, ◌∙◌, arith}
 use Rattle.geometry.proofs.place.slice_of.Goals as goal
-use Rattle.geometry.proofs.place.slice_of.Goals.{Start}
 
 pub returns : goal.returns
 unfolding G.slice_of

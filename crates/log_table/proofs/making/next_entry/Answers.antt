@@ -2,7 +2,6 @@
 use native.Mathlib.Omega.{arith}
 use Rattle.log_table.proofs.Entries.{even_is}
 use Rattle.log_table.proofs.making.next_entry.Goals as goal
-use Rattle.log_table.proofs.making.next_entry.Goals.{Start}
 
 pub returns-then-d-eq0 : goal.returns-then-d-eq0
 returns-then-d-eq0 c =

@@ -6,7 +6,6 @@ use native.Mathlib.Nat.{mod-eq_of_lt}
 use Rattle.rings.specs.RingLaws.{shape_pos}
 use Rattle.rings.specs.ColumnLaws.{col_code, col_end}
 use Rattle.rings.proofs.columns.load_column.Goals as goal
-use Rattle.rings.proofs.columns.load_column.Goals.{Start}
 
 pub overflow_sub-g : goal.overflow_sub-g
 overflow_sub-g c = shape_pos c.args.g c.requires.shape

@@ -3,7 +3,6 @@ use mathlib.Core.Path.{refl, ◌∙◌}
 use native.Mathlib.Omega.{arith}
 use Rattle.rings.specs.CacheLaws.{cached_none, cached_more, cached_all, col_small}
 use Rattle.rings.proofs.columns.load_ring.Goals as goal
-use Rattle.rings.proofs.columns.load_ring.Goals.{Start}
 
 pub loop-k-init : goal.loop-k-init
 loop-k-init c = (refl, omega arith, cached_none c.requires.shape c.args.c _)

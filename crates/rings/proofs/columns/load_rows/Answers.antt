@@ -7,7 +7,6 @@ use Rattle.words.specs.ShiftLaws.{one_shl}
 use Rattle.rings.specs.Columns.{none_used}
 use Rattle.rings.specs.ColumnLaws.{loaded_none, loaded_more, rows_empty}
 use Rattle.rings.proofs.columns.load_rows.Goals as goal
-use Rattle.rings.proofs.columns.load_rows.Goals.{Start}
 
 -- 1 << t
 stride : (t : ℕ) → t ≤ 16 → (1 * 2 ^ t % 2 ^ 64 ≡ 2 ^ t) × (2 ^ t ≤ 65536)

@@ -7,7 +7,6 @@ use lib.ListN.{length}
 use Rattle.rings.specs.Columns.{none_used}
 use Rattle.rings.specs.ColumnLaws.{none_past, none_cut}
 use Rattle.rings.proofs.columns.none_used.Goals as goal
-use Rattle.rings.proofs.columns.none_used.Goals.{Start}
 
 pub returns-then-len-from : goal.returns-then-len-from
 returns-then-len-from c = sym (none_past _ _ _ (omega arith) (omega arith))

@@ -5,7 +5,6 @@ use lib.Pow.{shr_le}
 use Rattle.rings.specs.ColumnLaws.{column_lt, column_code, column_above}
 use Rattle.rings.specs.CacheLaws.{next_slot, caches_next}
 use Rattle.rings.proofs.columns.retire.Goals as goal
-use Rattle.rings.proofs.columns.retire.Goals.{Start}
 
 pub overflow_add-c : goal.overflow_add-c
 overflow_add-c c = omega (arith, shr_le c.args.first_slot c.args.g.t, shr_le c.args.g.words c.args.g.t)

@@ -4,7 +4,6 @@ use native.Mathlib.Omega.{arith}
 use Rattle.words.specs.Map.{slot}
 use Rattle.rings.specs.ColumnLaws.{strided_none, strided_more, row_lt, row_code}
 use Rattle.rings.proofs.columns.stride_word.Goals as goal
-use Rattle.rings.proofs.columns.stride_word.Goals.{Start}
 
 pub loop-i-init : goal.loop-i-init
 loop-i-init c = (omega arith, strided_none _ _ _)

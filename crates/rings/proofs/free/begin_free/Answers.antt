@@ -2,7 +2,6 @@
 use native.Mathlib.Omega.{arith}
 use Rattle.rings.specs.BlockedLaws.{begun_empty, begun}
 use Rattle.rings.proofs.free.begin_free.Goals as goal
-use Rattle.rings.proofs.free.begin_free.Goals.{Start}
 
 pub returns-then-words-eq0 : goal.returns-then-words-eq0
 returns-then-words-eq0 c = begun_empty _ c.if-words-eq0.true c.clear_words.ensures

@@ -4,7 +4,6 @@ use mathlib.Core.Path.{◌≡◌}
 use Rattle.rings.specs.BlockedLaws.{within_then}
 use Rattle.rings.specs.StreamLaws.{keyed_none, keyed_more, keyed_all, layout_keys, few_words}
 use Rattle.rings.proofs.free.fill_free.Goals as goal
-use Rattle.rings.proofs.free.fill_free.Goals.{After-begin_free, After-finish_free, After-or_layouts, At-loop-i, In-loop-i, Start}
 
 pub loop-i-init : goal.loop-i-init
 loop-i-init c = keyed_none _ _ _ c.begin_free.ensures

@@ -1,7 +1,6 @@
 -- `finish_free` gives the complements cut to n bits, since the bits that `own_bits` keeps are those below n.
 use Rattle.rings.specs.BlockedLaws.{finished}
 use Rattle.rings.proofs.free.finish_free.Goals as goal
-use Rattle.rings.proofs.free.finish_free.Goals.{After-turn_over}
 
 pub returns : goal.returns
 returns c =

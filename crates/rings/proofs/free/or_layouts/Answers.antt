@@ -4,7 +4,6 @@ use Prim.Native.Nat.{ℕ, ◌+◌, ◌*◌}
 use mathlib.Core.Path.{◌≡◌}
 use Rattle.rings.specs.StreamLaws.{layouts_none, layouts_more, layouts_key, layout_end}
 use Rattle.rings.proofs.free.or_layouts.Goals as goal
-use Rattle.rings.proofs.free.or_layouts.Goals.{After-or_key, In-loop-r, Start}
 
 -- the key's place, as the code sums it up
 turn : (at i q : ℕ) → at + i + q ≡ at + q + i

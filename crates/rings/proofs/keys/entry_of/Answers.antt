@@ -6,7 +6,6 @@ use lib.Bits.{and_le_r}
 use Rattle.rings.specs.RingLaws.{n_pos}
 use Rattle.rings.specs.KeyLaws.{entry_code, entry_small, turn_lt, mask_lt}
 use Rattle.rings.proofs.keys.entry_of.Goals as goal
-use Rattle.rings.proofs.keys.entry_of.Goals.{Start}
 
 pub overflow_add-result : goal.overflow_add-result
 overflow_add-result c =

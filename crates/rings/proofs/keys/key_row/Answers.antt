@@ -3,7 +3,6 @@ use native.Mathlib.Omega.{arith}
 use Rattle.rings.specs.KeyLaws.{key_row}
 use Rattle.rings.specs.RingLaws.{n_le}
 use Rattle.rings.proofs.keys.key_row.Goals as goal
-use Rattle.rings.proofs.keys.key_row.Goals.{Start}
 
 pub place_of-x-requires : goal.place_of-x-requires
 place_of-x-requires c =

@@ -2,7 +2,6 @@
 use native.Mathlib.Omega.{arith}
 use Rattle.rings.specs.KeyLaws.{key_row_64}
 use Rattle.rings.proofs.keys.key_row_64.Goals as goal
-use Rattle.rings.proofs.keys.key_row_64.Goals.{Start}
 
 pub returns : goal.returns
 returns c =

@@ -5,7 +5,6 @@ use lib.Pow.{shr_le}
 use Rattle.rings.specs.RingLaws.{n_pos}
 use Rattle.rings.specs.KeyLaws.{place_code}
 use Rattle.rings.proofs.keys.place_of.Goals as goal
-use Rattle.rings.proofs.keys.place_of.Goals.{Start}
 
 pub overflow_add-result : goal.overflow_add-result
 overflow_add-result c = omega (arith, shr_le (c.args.d % 2 ^ 32) c.args.g.t)

@@ -2,7 +2,6 @@
 use mathlib.Core.Path.{sym, ◌∙◌}
 use Rattle.rings.specs.MarkLaws.{ring_test_code, ring_mark_code, took_no, took_yes}
 use Rattle.rings.proofs.marks.take_slot.Goals as goal
-use Rattle.rings.proofs.marks.take_slot.Goals.{Start}
 
 pub returns-then-x-b-eq1 : goal.returns-then-x-b-eq1
 returns-then-x-b-eq1 c =

@@ -1,7 +1,6 @@
 -- `unmark` clears the slot's bit of its word.
 use Rattle.rings.specs.MarkLaws.{ring_clear_code}
 use Rattle.rings.proofs.marks.unmark.Goals as goal
-use Rattle.rings.proofs.marks.unmark.Goals.{Start}
 
 pub returns : goal.returns
 returns c =

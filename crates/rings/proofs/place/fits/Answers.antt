@@ -7,7 +7,6 @@ use Rattle.rings.specs.Parts.{part}
 use Rattle.rings.specs.Place.{unmarked_to}
 use Rattle.rings.specs.PlaceLaws.{part_marked_to, fitted_yes, fitted_no}
 use Rattle.rings.proofs.place.fits.Goals as goal
-use Rattle.rings.proofs.place.fits.Goals.{Start}
 
 pub unmark_keys-requires : goal.unmark_keys-requires
 unmark_keys-requires c =

@@ -4,7 +4,6 @@ use native.Mathlib.Omega.{arith}
 use lib.ListN.{length}
 use Rattle.rings.specs.PlaceLaws.{mapping_none, mapping_more}
 use Rattle.rings.proofs.place.mark_bitmap.Goals as goal
-use Rattle.rings.proofs.place.mark_bitmap.Goals.{Start}
 
 pub loop-i-init : goal.loop-i-init
 loop-i-init c = mapping_none _ _ _ _ _

@@ -3,7 +3,6 @@ use borrow.Author.Tests.{not-true, not-false}
 use native.Mathlib.Omega.{arith}
 use Rattle.rings.specs.PlaceLaws.{marking_none, marking_ok, marking_met, marking_more, marking_all}
 use Rattle.rings.proofs.place.mark_keys.Goals as goal
-use Rattle.rings.proofs.place.mark_keys.Goals.{Start}
 
 pub loop-i-init : goal.loop-i-init
 loop-i-init c = marking_none _ _ _ _ _ _

@@ -7,7 +7,6 @@ use Rattle.rings.specs.Parts.{part}
 use Rattle.rings.specs.Place.{unmarked_to}
 use Rattle.rings.specs.PlaceLaws.{placed_yes, placed_no, part_marked_to}
 use Rattle.rings.proofs.place.place.Goals as goal
-use Rattle.rings.proofs.place.place.Goals.{Start}
 
 pub returns-then-k-size : goal.returns-then-k-size
 returns-then-k-size c = placed_yes c.mark_keys-k.ensures c.if-k-size.true

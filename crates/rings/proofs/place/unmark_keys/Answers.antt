@@ -3,7 +3,6 @@ use native.Mathlib.Omega.{arith}
 use mathlib.Core.Path.{◌≡◌, sym, ◌∙◌}
 use Rattle.rings.specs.PlaceLaws.{unmarking_start, unmarking_ok, unmarking_more, unmarked_to_zero}
 use Rattle.rings.proofs.place.unmark_keys.Goals as goal
-use Rattle.rings.proofs.place.unmark_keys.Goals.{Start}
 
 pub loop-i-init : goal.loop-i-init
 loop-i-init c = unmarking_start _ _ _ _ _ _ _ _

@@ -5,7 +5,6 @@ use mathlib.Core.Path.{◌≡◌}
 use Prim.Native.Nat.{◌%◌, ◌^◌}
 use Rattle.words.specs.ShiftLaws.{one_shl_pos, and_low}
 use Rattle.rings.proofs.rows.low_bits.Goals as goal
-use Rattle.rings.proofs.rows.low_bits.Goals.{Start}
 
 pub overflow_sub-result : goal.overflow_sub-result
 overflow_sub-result c = one_shl_pos 64 _ (omega arith)

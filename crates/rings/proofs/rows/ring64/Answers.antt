@@ -5,7 +5,6 @@ use Prim.Native.Nat.{ℕ, ◌+◌}
 use Rattle.rings.specs.RingLaws.{n_le, step_lt, step_code}
 use Rattle.rings.specs.RowLaws.{ring_short, ring_straight, ring_round}
 use Rattle.rings.proofs.rows.ring64.Goals as goal
-use Rattle.rings.proofs.rows.ring64.Goals.{Start}
 
 pub returns-then-n-le64 : goal.returns-then-n-le64
 returns-then-n-le64 c =

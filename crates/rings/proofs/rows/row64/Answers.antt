@@ -1,7 +1,6 @@
 -- `row64` gives the row from slot p on: the words of a slot and of the next column, joined at the slot's bit.
 use Rattle.rings.specs.RowLaws.{row_joined}
 use Rattle.rings.proofs.rows.row64.Goals as goal
-use Rattle.rings.proofs.rows.row64.Goals.{After-next_word-next}
 
 pub returns : goal.returns
 returns c =

@@ -3,7 +3,6 @@ use native.Mathlib.Omega.{arith}
 use native.Mathlib.Nat.{mod-lt}
 use Rattle.rings.specs.RingLaws.{stride_le, next_code, shape_pos}
 use Rattle.rings.proofs.slots.next_word.Goals as goal
-use Rattle.rings.proofs.slots.next_word.Goals.{Start}
 
 pub overflow_add-result : goal.overflow_add-result
 overflow_add-result c = omega (arith, stride_le c.args.g.t c.requires.shape.e c.args.g.words (omega arith) c.requires.shape.size)

@@ -3,7 +3,6 @@ use native.Mathlib.Omega.{arith}
 use Rattle.words.specs.ShiftLaws.{one_shl_pos}
 use Rattle.rings.specs.RingLaws.{shape_pos, word_fits, word_code, word_lt}
 use Rattle.rings.proofs.slots.word_of.Goals as goal
-use Rattle.rings.proofs.slots.word_of.Goals.{Start}
 
 pub overflow_sub-result : goal.overflow_sub-result
 overflow_sub-result c = one_shl_pos 64 c.args.g.t (omega arith)

@@ -1,7 +1,6 @@
 -- `or_key` adds a key's slots: they are its ring from the place that the key takes at rotation 0.
 use Rattle.rings.specs.StreamLaws.{key_added}
 use Rattle.rings.proofs.stream.or_key.Goals as goal
-use Rattle.rings.proofs.stream.or_key.Goals.{After-or_ring, Start}
 
 pub returns : goal.returns
 returns c =

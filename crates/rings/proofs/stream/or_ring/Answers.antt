@@ -4,7 +4,6 @@ use mathlib.Core.Path.{◌≡◌}
 use Rattle.rings.specs.RingLaws.{n_le}
 use Rattle.rings.specs.StreamLaws.{stream_none, stream_more, next_lt}
 use Rattle.rings.proofs.stream.or_ring.Goals as goal
-use Rattle.rings.proofs.stream.or_ring.Goals.{After-ring_word-high, After-slice_known-1, After-word_of-base, Start}
 
 pub loop-i-init : goal.loop-i-init
 loop-i-init c =

@@ -3,7 +3,6 @@ use native.Mathlib.Omega.{arith}
 use Rattle.rings.specs.RingLaws.{step_lt, step_code}
 use Rattle.rings.specs.StreamLaws.{on_code, ring_word}
 use Rattle.rings.proofs.stream.ring_word.Goals as goal
-use Rattle.rings.proofs.stream.ring_word.Goals.{After-next_word-next, Start}
 
 pub overflow_add-w : goal.overflow_add-w
 overflow_add-w c =

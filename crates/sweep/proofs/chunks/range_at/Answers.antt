@@ -3,7 +3,6 @@ use native.Mathlib.Omega.{arith}
 use Prim.Native.Nat.{◌-◌}
 use Rattle.sweep.proofs.RangeLaws.{gap_room, short_by, last_by, gap_by}
 use Rattle.sweep.proofs.chunks.range_at.Goals as goal
-use Rattle.sweep.proofs.chunks.range_at.Goals.{Start}
 
 pub overflow_sub-result : goal.overflow_sub-result
 overflow_sub-result c = gap_room c.args.g.settings c.args.chunks c.requires.gap_value.1 c.args.gap c.requires.gap_value.0 (c.requires.gap_value.3 (omega (arith, c.if-k-chunks.true))) c.args.k c.bound-then-k-chunks.result c.bound-then-k-chunks.ensures

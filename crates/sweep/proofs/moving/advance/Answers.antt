@@ -3,7 +3,6 @@ use Rattle.geometry.proofs.Sizes.{sized}
 use mathlib.Core.Path.{refl, ◌∙◌}
 use native.Mathlib.Omega.{arith}
 use Rattle.sweep.proofs.moving.advance.Goals as goal
-use Rattle.sweep.proofs.moving.advance.Goals.{Start}
 
 pub column_slots-column-requires : goal.column_slots-column-requires
 column_slots-column-requires c = c.requires.shape

@@ -3,7 +3,6 @@ use lib.Pow.{pow_mono}
 use Prim.Native.Nat.{◌^◌, ◌≤◌}
 use native.Mathlib.Omega.{arith}
 use Rattle.sweep.proofs.moving.column_slots.Goals as goal
-use Rattle.sweep.proofs.moving.column_slots.Goals.{Start}
 
 pub overflow_shl-result : goal.overflow_shl-result
 overflow_shl-result c = omega (arith, c.requires.stride)

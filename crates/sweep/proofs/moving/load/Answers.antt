@@ -6,7 +6,6 @@ use Rattle.geometry.proofs.Sizes.{sized}
 use Rattle.rings.specs.Columns.{col_slot, Caches}
 use Rattle.sweep.proofs.RangeLaws.{col_le, col_is}
 use Rattle.sweep.proofs.moving.load.Goals as goal
-use Rattle.sweep.proofs.moving.load.Goals.{Start}
 
 pub load_ring-requires : goal.load_ring-requires
 load_ring-requires c =

@@ -11,7 +11,6 @@ use Rattle.rules.specs.Chunks as R
 use Rattle.sweep.proofs.StartLaws.{rests}
 use Rattle.sweep.proofs.RunLaws.{next_range, ran_all, ran_at, span_is, span_count, span_room, rests_first, rests_more}
 use Rattle.sweep.proofs.turning.run.Goals as goal
-use Rattle.sweep.proofs.turning.run.Goals.{Start}
 
 pub ring_of-ring-requires : goal.ring_of-ring-requires
 ring_of-ring-requires c = c.requires.made

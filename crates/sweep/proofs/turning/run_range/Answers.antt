@@ -5,7 +5,6 @@ use Rattle.rules.specs.declared.Settings.{Settings}
 use Rattle.sweep.proofs.StepLaws.{ring_shape, ring_room, caches_out, first_out}
 use Rattle.sweep.proofs.StartLaws.{starts}
 use Rattle.sweep.proofs.turning.run_range.Goals as goal
-use Rattle.sweep.proofs.turning.run_range.Goals.{Start}
 
 pub load-from-requires : goal.load-from-requires
 load-from-requires c =

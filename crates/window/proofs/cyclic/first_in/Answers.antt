@@ -4,7 +4,6 @@ use native.Mathlib.Omega.{arith}
 use Prim.Native.Nat.{◌+◌, ◌-◌, ◌%◌}
 use mathlib.Core.Path.{sym, subst}
 use Rattle.window.proofs.cyclic.first_in.Goals as goal
-use Rattle.window.proofs.cyclic.first_in.Goals.{Start}
 
 pub returns-then-e-le1024 : goal.returns-then-e-le1024
 returns-then-e-le1024 c =

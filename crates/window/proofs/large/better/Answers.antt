@@ -16,7 +16,7 @@ use Rattle.window.specs.Key.{key_of, beyond_of}
 use Rattle.words.specs.Map.{slot}
 use Rattle.window.specs.Large.{large_key, better_of}
 use Rattle.window.proofs.large.better.Goals as goal
-use Rattle.window.proofs.large.better.Goals.{After-key-k, Start}
+use Rattle.window.proofs.large.better.Goals.{After-key-k}
 
 -- by the tests: few keys, taken, or compared
 off : (t : Bool) → not t ≡ true → t ≡ false

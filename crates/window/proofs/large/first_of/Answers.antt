@@ -12,7 +12,7 @@ use mir.Facts.{to_z-of_z}
 use Rattle.window.specs.Large.{key_in, first_of}
 use Rattle.window.proofs.Sizes.{fewer}
 use Rattle.window.proofs.large.first_of.Goals as goal
-use Rattle.window.proofs.large.first_of.Goals.{After-key_of-l, Start}
+use Rattle.window.proofs.large.first_of.Goals.{After-key_of-l}
 
 -- by the two tests
 none_told : (begins : List ℕ) (table : List ℤ) (large b : ℕ) → large ≡ 0 → b + 1 ≡ first_of begins table large b

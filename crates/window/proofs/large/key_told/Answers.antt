@@ -2,7 +2,6 @@ use Prim.Native.Nat.{◌<◌, ◌-◌, ◌+◌}
 use native.Mathlib.Omega.{arith}
 use Rattle.window.proofs.Sizes.{fewer}
 use Rattle.window.proofs.large.key_told.Goals as goal
-use Rattle.window.proofs.large.key_told.Goals.{Start}
 
 pub returns-then-large-eq0 : goal.returns-then-large-eq0
 returns-then-large-eq0 c = λ l. absurd (omega (arith, c.if-large-eq0.true))

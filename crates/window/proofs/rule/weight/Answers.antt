@@ -11,7 +11,6 @@ use Prim.Native.Nat.{ℕ, ◌-◌}
 use mathlib.Core.List.{List}
 use mathlib.Core.Path.{◌≡◌, sym, ◌∙◌}
 use Rattle.window.proofs.rule.weight.Goals as goal
-use Rattle.window.proofs.rule.weight.Goals.{Start}
 
 -- what the bits of an entry read back as
 entry : (ws : List ℤ) (k : ℕ) → Within ws → to_z w64 (of_z w64 (get_or ws k (pos 0))) ≡ get_or ws k (pos 0)

@@ -1,6 +1,5 @@
 use Rattle.window_runs.proofs.Begun.{begun}
 use Rattle.window_runs.proofs.turns.order.Goals as goal
-use Rattle.window_runs.proofs.turns.order.Goals.{Start}
 
 pub all-requires : goal.all-requires
 all-requires c =
