@@ -3,7 +3,7 @@ ghost use Rattle.std.specs.Prelude.{◌≡◌, ◌<◌, ◌≤◌, OnOk};
 ghost use Rattle.rules.specs.Geometry.{slice_len, log_len, slices, per_bucket};
 ghost use Rattle.rules.specs.Good.{Good, Usable};
 ghost use Rattle.rules.specs.Numbers.{first_of, lines_to6, lines_to7};
-ghost use Rattle.rules.specs.Answers.{refused_by};
+ghost use Rattle.rules.specs.Answers.{refused_by, said_checked, settings_answer};
 
 use integers::choice::smaller;
 use integers::power::{log2_up, power_of_two};
@@ -71,6 +71,7 @@ pub fn per_bucket(s: Settings) -> u64
 
 // Whether a sweep takes the settings: refuses them by the first of 1 to 7 that applies.
 pub fn check_settings(s: Settings) -> Result<(), Refusal>
+    ensures answer { said_checked result ≡ settings_answer s }
     ensures number { refused_by result ≡ first_of (lines_to7 s) }
     ensures good { OnOk result (Good s) }
     ensures usable { OnOk result (Usable s) }

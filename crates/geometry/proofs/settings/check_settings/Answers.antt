@@ -1,7 +1,10 @@
 -- Lines 1 to 7 are lines 1 to 6 and line 7.
 use Rattle.rules.proofs.CheckLaws.{numbered_6}
 use Rattle.rules.proofs.Lines.{first_append_zero}
-use Rattle.rules.proofs.RefusalLaws.{refused_first}
+use Rattle.rules.proofs.RefusalLaws.{refused_first, checked_says}
+use Rattle.rules.specs.Answers.{settings_answer}
+use Rattle.rules.specs.declared.Refusal.TheVariants.{SlicesPerBucket}
+use Rattle.std.specs.Prelude.{Ok, Err}
 use Rattle.rules.specs.declared.Settings.{Settings}
 use Rattle.rules.specs.Numbers.{first_of, lines_to6, lines_to7, line7}
 use Rattle.std.proofs.lemmas.Grind.{common_steps}
@@ -24,3 +27,15 @@ returns-then-per_bucket-gt4096-clause-number c = grind (arith, common_steps, res
 
 pub returns-clause-number : goal.returns-clause-number
 returns-clause-number c = grind (arith, common_steps, rest c.args.s c.in_ok-check_to_6.ensures.number)
+
+pub returns-in_err-check_to_6-clause-answer : goal.returns-in_err-check_to_6-clause-answer
+unfolding settings_answer
+returns-in_err-check_to_6-clause-answer c = checked_says c.from_residual.result _ (returns-in_err-check_to_6-clause-number c)
+
+pub returns-then-per_bucket-gt4096-clause-answer : goal.returns-then-per_bucket-gt4096-clause-answer
+unfolding settings_answer
+returns-then-per_bucket-gt4096-clause-answer c = checked_says (Err SlicesPerBucket) _ (returns-then-per_bucket-gt4096-clause-number c)
+
+pub returns-clause-answer : goal.returns-clause-answer
+unfolding settings_answer
+returns-clause-answer c = checked_says (Ok tt) _ (returns-clause-number c)
