@@ -1,12 +1,11 @@
 -- What a geometry's fields are and how large. Assumes nothing.
-use Rattle.std.proofs.Common.{◌≡◌, ◌+◌, ◌-◌, ◌*◌, ◌/◌, ◌%◌, ◌^◌, ◌<◌, ◌≤◌, sym, refl, subst, le_trans, lt_of_le_of_lt, div-le_self, arith, pow_pos, pow_mono}
+use Rattle.std.proofs.Common.{◌≡◌, ◌+◌, ◌-◌, ◌*◌, ◌/◌, ◌%◌, ◌^◌, ◌<◌, ◌≤◌, sym, ap, ◌∙◌, ℕ, le_trans, lt_of_le_of_lt, div-le_self, arith, pow_pos, pow_mono}
 use Rattle.integers.specs.PowerLaws.{least_power_tight}
 use Rattle.rules.specs.declared.Settings.{Settings}
 use Rattle.rules.specs.Geometry as G
 use Rattle.rules.specs.Good.{Usable}
 use Rattle.rules.proofs.GeometryLaws.{len_pow, len_pos, len_high, log_len_le, slices_pos, slices_le, slices_len, stride_high, ring_pos}
 use Rattle.geometry.specs.declared.shape.Geometry.{Geometry}
-use Rattle.geometry.specs.Shape.{geometry_of, Made}
 
 pub record Sized (g : Geometry) : Type 0 where
   pub l_is : g.l ≡ G.slice_len g.settings
@@ -49,42 +48,39 @@ slots_lt s d =
     let t : 2 ^ G.stride s ≤ 2 ^ 16 = pow_mono (stride_high s d.slice_high) in
     omega (arith, len_high s d.slice_high, share_lt s d, least_power_tight (4 * (G.slice_len s + 1) + 512 * G.per_bucket s + 64 * 2 ^ G.stride s))
 
-sized_of : (s : Settings) → Usable s → Sized (geometry_of s)
-unfolding geometry_of G.scale G.layouts G.ring_len
-sized_of s d =
-    let p : 2 ^ s.ll ≤ 2 ^ 6 = pow_mono d.ll_high in
-    record {
-      l_is = refl;
-      l_pow = len_pow s;
-      l_low = len_pos s;
-      l_high = len_high s d.slice_high;
-      ns_is = refl;
-      ns_low = slices_pos s d.m_low;
-      ns_high = omega (arith, slices_le s, d.m_high);
-      sum = slices_len s d.m_low;
-      scale_is = refl;
-      scale_high = omega (arith, log_len_le s, d.slice_high);
-      layouts_is = refl;
-      layouts_low = pow_pos s.ll;
-      layouts_high = p;
-      bits_is = refl;
-      stride_is = refl;
-      stride_high = stride_high s d.slice_high;
-      ring_is = refl;
-      ring_low = ring_pos s;
-      ring_high = le_trans (div-le_self (G.slice_len s) (2 ^ G.stride s)) (len_high s d.slice_high);
-      rotations_is = refl;
-      hi_is = refl;
-      lo_is = refl;
-      p_is = refl;
-      slots_is = refl;
-      slots_high = slots_lt s d;
-      entries_is = refl;
-    }
-
-pub sized : (g : Geometry) → Made g → Sized g
-sized g h = subst Sized (sym h.same) (sized_of g.settings h.usable)
-
-pub made : (s : Settings) → Usable s → Made (geometry_of s)
-unfolding geometry_of
-made s d = record { usable = d; same = refl }
+module _ (g : Geometry) where
+  pub sized : Sized g
+  unfolding G.scale G.layouts G.ring_len
+  sized =
+      let s = g.settings in
+      let d = g.usable in
+      let n = g.numbers in
+      let p : 2 ^ s.ll ≤ 2 ^ 6 = pow_mono d.ll_high in
+      record {
+        l_is = n.l_is;
+        l_pow = n.l_is ∙ len_pow s;
+        l_low = omega (arith, n.l_is, len_pos s);
+        l_high = omega (arith, n.l_is, len_high s d.slice_high);
+        ns_is = n.slices_is;
+        ns_low = omega (arith, n.slices_is, slices_pos s d.m_low);
+        ns_high = omega (arith, n.slices_is, slices_le s, d.m_high);
+        sum = omega (arith, n.slices_is, n.l_is, slices_len s d.m_low);
+        scale_is = n.scale_is;
+        scale_high = omega (arith, n.scale_is, log_len_le s, d.slice_high);
+        layouts_is = n.layouts_is;
+        layouts_low = omega (arith, n.layouts_is, pow_pos s.ll);
+        layouts_high = omega (arith, n.layouts_is, p);
+        bits_is = n.layout_bits_is ∙ ap (λ (x : ℕ). 64 / x) (sym n.layouts_is);
+        stride_is = n.stride_is;
+        stride_high = omega (arith, n.stride_is, stride_high s d.slice_high);
+        ring_is = n.ring_is;
+        ring_low = omega (arith, n.ring_is, ring_pos s);
+        ring_high = omega (arith, n.ring_is, le_trans (div-le_self (G.slice_len s) (2 ^ G.stride s)) (len_high s d.slice_high));
+        rotations_is = n.rotations_is;
+        hi_is = n.q_hi_is;
+        lo_is = n.q_lo_is;
+        p_is = n.per_bucket_is;
+        slots_is = n.slots_is;
+        slots_high = omega (arith, n.slots_is, slots_lt s d);
+        entries_is = n.entries_is;
+      }

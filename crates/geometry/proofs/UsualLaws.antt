@@ -7,7 +7,7 @@ use Rattle.rules.specs.declared.Settings.{Settings}
 use Rattle.rules.specs.Geometry as G
 use Rattle.rules.proofs.Tests.{and_left, and_right}
 use Rattle.geometry.specs.declared.shape.Geometry.{Geometry}
-use Rattle.geometry.specs.Shape.{Made, geometry_of}
+use Rattle.geometry.specs.Ruled.{Numbers}
 use Rattle.geometry.specs.Usual.{Usual, usual_shape, usual_settings}
 use Rattle.geometry.proofs.Sizes.{sized}
 
@@ -57,9 +57,8 @@ module _ (s : Settings) (t : T (usual_settings s)) where
   unfolding G.slice_len
   len_1024 = rw slice_ten (omega (arith, least_1024, least_power_mono {x = 513} {y = s.m / 2 + 1} (omega (arith, slots_low))))
 
-  pub usual_of : Usual (geometry_of s)
-  unfolding geometry_of
-  usual_of = record { len = len_1024; ll = ll_two; sb = sb_eight }
+  pub usual_of : (g : Geometry) → g.settings ≡ s → Usual g
+  usual_of g e = record { len = g.numbers.l_is ∙ ap G.slice_len e ∙ len_1024; ll = ap (λ (x : Settings). x.ll) e ∙ ll_two; sb = ap (λ (x : Settings). x.sb) e ∙ sb_eight }
 
 -- ---- rule G
 
@@ -88,33 +87,42 @@ module _ (s : Settings) (len : G.slice_len s ≡ 1024) (ll : s.ll ≡ 2) (sb : s
   unfolding G.rotations
   rotations_is = rw (layouts_is, sb) refl
 
--- ---- a geometry by its fields
+-- ---- a geometry of the default shape
 
-shape_of : (g : Geometry) {l slices scale layouts bits stride ring rotations : ℕ} → l ≡ g.l → slices ≡ g.slices → scale ≡ g.scale → layouts ≡ g.layouts → bits ≡ g.layout_bits
-    → stride ≡ g.stride → ring ≡ g.ring → rotations ≡ g.rotations
-    → record { settings = g.settings; l = l; slices = slices; scale = scale; layouts = layouts; layout_bits = bits; stride = stride; ring = ring; rotations = rotations; q_hi = g.q_hi; q_lo = g.q_lo; per_bucket = g.per_bucket; slots = g.slots; entries = g.entries } ≡ g
-shape_of g el ec es ey eb et en er = rw (el, ec, es, ey, eb, et, en, er) refl
-
-module _ {g : Geometry} (m : Made g) (u : Usual g) where
+module _ {g : Geometry} (u : Usual g) where
   pub usual_len : G.slice_len g.settings ≡ 1024
-  usual_len = sym (sized g m).l_is ∙ u.len
+  usual_len = sym (sized g).l_is ∙ u.len
 
   pub usual_slots : 1024 ≤ g.settings.m
-  usual_slots = omega (arith, (sized g m).sum, (sized g m).ns_low, u.len)
+  usual_slots = omega (arith, (sized g).sum, (sized g).ns_low, u.len)
 
   slices_of : g.settings.m - 1023 ≡ g.slices
-  slices_of = omega (arith, (sized g m).sum, u.len)
+  slices_of = omega (arith, (sized g).sum, u.len)
 
   layouts_of : g.layouts ≡ 4
   unfolding G.layouts
-  layouts_of = (sized g m).layouts_is ∙ layouts_is g.settings usual_len u.ll u.sb
+  layouts_of = (sized g).layouts_is ∙ layouts_is g.settings usual_len u.ll u.sb
 
   bits_of : g.layout_bits ≡ 16
-  bits_of = (sized g m).bits_is ∙ ap (λ (x : ℕ). 64 / x) layouts_of
+  bits_of = (sized g).bits_is ∙ ap (λ (x : ℕ). 64 / x) layouts_of
 
-  -- the geometry with literals for what the compiler is to fold
-  pub literal_is : record { settings = g.settings; l = 1024; slices = g.settings.m - 1023; scale = 2; layouts = 4; layout_bits = 16; stride = 4; ring = 64; rotations = 64; q_hi = g.q_hi; q_lo = g.q_lo; per_bucket = g.per_bucket; slots = g.slots; entries = g.entries } ≡ g
-  literal_is =
-      shape_of g (sym u.len) slices_of (sym ((sized g m).scale_is ∙ scale_is g.settings usual_len u.ll u.sb)) (sym layouts_of) (sym bits_of)
-      (sym ((sized g m).stride_is ∙ stride_is g.settings usual_len u.ll u.sb)) (sym ((sized g m).ring_is ∙ ring_is g.settings usual_len u.ll u.sb))
-      (sym ((sized g m).rotations_is ∙ rotations_is g.settings usual_len u.ll u.sb))
+  -- the literals are rule G's numbers
+  pub literal_numbers : Numbers g.settings 1024 (g.settings.m - 1023) 2 4 16 4 64 64 g.q_hi g.q_lo g.per_bucket g.slots g.entries
+  literal_numbers =
+      let s = g.settings in
+      let n = g.numbers in
+      record {
+        l_is = sym usual_len;
+        slices_is = slices_of ∙ n.slices_is;
+        scale_is = sym (scale_is s usual_len u.ll u.sb);
+        layouts_is = sym layouts_of ∙ n.layouts_is;
+        layout_bits_is = sym bits_of ∙ n.layout_bits_is;
+        stride_is = sym (stride_is s usual_len u.ll u.sb);
+        ring_is = sym (ring_is s usual_len u.ll u.sb);
+        rotations_is = sym (rotations_is s usual_len u.ll u.sb);
+        q_hi_is = n.q_hi_is;
+        q_lo_is = n.q_lo_is;
+        per_bucket_is = n.per_bucket_is;
+        slots_is = n.slots_is;
+        entries_is = n.entries_is;
+      }

@@ -1,3 +1,3 @@
-pub mod Shape
+pub mod Ruled
 pub mod Small
 pub mod Usual

@@ -1,53 +1,50 @@
 // Where a hash goes.
 ghost use Rattle.std.specs.Prelude.{◌≡◌, ◌+◌, ◌<◌, ◌≤◌};
 ghost use Rattle.rules.specs.Geometry as G;
-ghost use Rattle.geometry.specs.Shape.{Made};
 
 use super::shape::Geometry;
 use integers::product::{mul_hi, mul_lo};
 
-// The bucket of h.
-#[tactic(auto, unfolding(rules::specs::Geometry::bucket_of))]
-pub fn bucket_of(g: Geometry, h: u64) -> u64
-    requires { Made g }
-    ensures { (result ≡ G.bucket_of g.settings h) × (result < g.settings.buckets) }
-{
-    mul_hi(h, g.settings.buckets)
-}
+impl Geometry {
+    // The bucket of h.
+    #[tactic(auto, unfolding(rules::specs::Geometry::bucket_of))]
+    pub fn bucket_of(self, h: u64) -> u64
+        ensures { (result ≡ G.bucket_of self.settings h) × (result < self.settings.buckets) }
+    {
+        mul_hi(h, self.settings.buckets)
+    }
 
-// The slice of h.
-pub fn slice_of(g: Geometry, h: u64) -> u64
-    requires { Made g }
-    ensures { (result ≡ G.slice_of g.settings h) × (result < g.slices) }
-{
-    mul_hi(h, g.slices)
-}
+    // The slice of h.
+    pub fn slice_of(self, h: u64) -> u64
+        ensures { (result ≡ G.slice_of self.settings h) × (result < self.slices) }
+    {
+        mul_hi(h, self.slices)
+    }
 
-// o = h * B modulo 2^64, from which each layout takes its offset.
-#[tactic(auto, unfolding(rules::specs::Geometry::offset_of))]
-pub fn offset_of(g: Geometry, h: u64) -> u64
-    ensures { result ≡ G.offset_of g.settings h }
-{
-    mul_lo(h, g.settings.buckets)
-}
+    // o = h * B modulo 2^64, from which each layout takes its offset.
+    #[tactic(auto, unfolding(rules::specs::Geometry::offset_of))]
+    pub fn offset_of(self, h: u64) -> u64
+        ensures { result ≡ G.offset_of self.settings h }
+    {
+        mul_lo(h, self.settings.buckets)
+    }
 
-// The first slice of bucket b.
-pub fn first(g: Geometry, b: u64) -> u64
-    requires made { Made g }
-    requires b_le_buckets { b ≤ g.settings.buckets }
-    ensures { (result ≡ G.first g.settings b) × (result ≤ g.slices) }
-{
-    b * g.q_hi + mul_hi(b, g.q_lo)
-}
+    // The first slice of bucket b.
+    pub fn first(self, b: u64) -> u64
+        requires { b ≤ self.settings.buckets }
+        ensures { (result ≡ G.first self.settings b) × (result ≤ self.slices) }
+    {
+        b * self.q_hi + mul_hi(b, self.q_lo)
+    }
 
-// The position of h under a seed.
-pub fn position(g: Geometry, h: u64, seed: u16) -> u64
-    requires { Made g }
-    ensures { (result ≡ G.position g.settings seed h) × (result < g.settings.m) }
-{
-    let mask = g.l - 1;
-    let v = seed as u64;
-    let r = v & (g.layouts - 1);
-    let x = (offset_of(g, h) >> (r * g.layout_bits)) & mask;
-    slice_of(g, h) + ((x + (v << g.scale)) & mask)
+    // The position of h under a seed.
+    pub fn position(self, h: u64, seed: u16) -> u64
+        ensures { (result ≡ G.position self.settings seed h) × (result < self.settings.m) }
+    {
+        let mask = self.l - 1;
+        let v = seed as u64;
+        let r = v & (self.layouts - 1);
+        let x = (self.offset_of(h) >> (r * self.layout_bits)) & mask;
+        self.slice_of(h) + ((x + (v << self.scale)) & mask)
+    }
 }

@@ -3,7 +3,7 @@ ghost use Rattle.std.specs.Prelude.{◌≡◌, ◌+◌, ◌*◌, ◌/◌, ◌^�
 ghost use Rattle.integers.specs.Power.{least_power};
 ghost use Rattle.rules.specs.Geometry.{work_words};
 ghost use Rattle.rules.specs.Good.{Usable};
-ghost use Rattle.geometry.specs.Shape.{geometry_of, Made};
+ghost use Rattle.geometry.specs.Ruled.{Numbers};
 
 use super::settings::{log2_len, per_bucket, slice_count, slice_len};
 use integers::power::{next_power_of_two, power_of_two};
@@ -36,6 +36,9 @@ pub struct Geometry {
     pub slots: u64,
     // table entries needed
     pub entries: u64,
+    // Settings that 1 to 6 do not refuse, and rule G number by number.
+    pub ghost usable: { Usable settings },
+    pub ghost numbers: { Numbers settings l slices scale layouts layout_bits stride ring rotations q_hi q_lo per_bucket slots entries },
 }
 
 // r * 2^64 / b, the fraction r / b in 64 bits, by two digits of 32 bits.
@@ -64,37 +67,6 @@ fn slots_of(l: u64, p: u64, span: u64) -> u64
     next_power_of_two(4 * (l + 1) + 512 * p + 64 * span)
 }
 
-// The geometry of settings that 1 to 6 do not refuse.
-pub fn geometry_of(s: Settings) -> Geometry
-    requires { Usable s }
-    ensures { result ≡ geometry_of s }
-{
-    let log2_l = log2_len(s);
-    let l = slice_len(s);
-    let slices = slice_count(s);
-    let per_bucket = per_bucket(s);
-    let scale = log2_l.saturating_sub(s.sb);
-    let layouts = power_of_two(s.ll);
-    let stride = stride_of(s.ll, scale, log2_l);
-    let span = power_of_two(stride);
-    Geometry {
-        settings: s,
-        l,
-        slices,
-        scale,
-        layouts,
-        layout_bits: 64 / layouts,
-        stride,
-        ring: l / span,
-        rotations: power_of_two(s.sb) / layouts,
-        q_hi: slices / s.buckets,
-        q_lo: fraction(slices % s.buckets, s.buckets),
-        per_bucket,
-        slots: slots_of(l, per_bucket, span),
-        entries: 95 + (per_bucket + 1) + l,
-    }
-}
-
 // Work words, from plain numbers.
 fn words(slots: u64, z: u64, layouts: u64, ring: u64) -> u64
     requires { (slots < 2 ^ 40) × (z ≤ 4096) × (layouts ≤ 64) × (ring ≤ 65536) }
@@ -103,11 +75,43 @@ fn words(slots: u64, z: u64, layouts: u64, ring: u64) -> u64
     slots / 32 + z * (layouts + 2) + 3 * layouts * ring.max(64) + 2560
 }
 
-// W, the work words that a sweep wants whose largest bucket has z keys.
-pub fn work_words(g: Geometry, z: u64) -> u64
-    requires made { Made g }
-    requires z_bound { z ≤ 4096 }
-    ensures { (result ≡ work_words g.settings z) × (result < 2 ^ 36) }
-{
-    words(g.slots, z, g.layouts, g.ring)
+impl Geometry {
+    // The geometry of settings that 1 to 6 do not refuse.
+    pub fn new(settings: Settings) -> Geometry
+        requires { Usable settings }
+        ensures { result.settings ≡ settings }
+    {
+        let log2_l = log2_len(settings);
+        let l = slice_len(settings);
+        let slices = slice_count(settings);
+        let per_bucket = per_bucket(settings);
+        let scale = log2_l.saturating_sub(settings.sb);
+        let layouts = power_of_two(settings.ll);
+        let stride = stride_of(settings.ll, scale, log2_l);
+        let span = power_of_two(stride);
+        Geometry {
+            settings,
+            l,
+            slices,
+            scale,
+            layouts,
+            layout_bits: 64 / layouts,
+            stride,
+            ring: l / span,
+            rotations: power_of_two(settings.sb) / layouts,
+            q_hi: slices / settings.buckets,
+            q_lo: fraction(slices % settings.buckets, settings.buckets),
+            per_bucket,
+            slots: slots_of(l, per_bucket, span),
+            entries: 95 + (per_bucket + 1) + l,
+        }
+    }
+
+    // W, the work words that a sweep wants whose largest bucket has z keys.
+    pub fn work_words(self, z: u64) -> u64
+        requires { z ≤ 4096 }
+        ensures { (result ≡ work_words self.settings z) × (result < 2 ^ 36) }
+    {
+        words(self.slots, z, self.layouts, self.ring)
+    }
 }
