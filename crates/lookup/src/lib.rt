@@ -5,24 +5,21 @@ ghost use Rattle.std.specs.Prelude.{◌≡◌, length, option_to_list, OnOk, IfO
 ghost use Rattle.rules.specs.Holes.{looked_up};
 ghost use Rattle.rules.specs.Numbers.{first_of, lookup_lines};
 ghost use Rattle.rules.specs.Answers.{refused_by, said_looked, lookup_answer};
-ghost use Rattle.geometry.specs.Shape.{Made};
 ghost use Rattle.geometry.specs.Usual.{Usual, usual_settings};
 
-use geometry::place::{bucket_of, position};
 use geometry::settings::check_to_6;
-use geometry::shape::{Geometry, geometry_of};
-use geometry::usual::{literal, usual_settings};
+use geometry::shape::Geometry;
+use geometry::usual::usual_settings;
 use rules::{Refusal, Settings};
 
 // Looks a hash up in a geometry that is made once for many lookups.
 pub fn lookup_in(g: Geometry, seeds: &[u16], hash: u64) -> Option<u64>
-    requires made { Made g }
-    requires seeds_len { length seeds.now ≡ g.settings.buckets }
+    requires { length seeds.now ≡ g.settings.buckets }
     ensures { option_to_list result ≡ looked_up g.settings seeds.now hash }
 {
-    match seeds[bucket_of(g, hash) as usize] {
+    match seeds[g.bucket_of(hash) as usize] {
         0 => None,
-        seed => Some(position(g, hash, seed)),
+        seed => Some(g.position(hash, seed)),
     }
 }
 
@@ -30,7 +27,6 @@ pub fn lookup_in(g: Geometry, seeds: &[u16], hash: u64) -> Option<u64>
 fn checked(settings: Settings, seeds: &[u16]) -> Result<Geometry, Refusal>
     ensures number { refused_by result ≡ first_of (lookup_lines settings (length seeds.now)) }
     ensures seeds_len { OnOk result (length seeds.now ≡ settings.buckets) }
-    ensures made { IfOk result (λ g. Made g) }
     ensures same { IfOk result (λ g. g.settings ≡ settings) }
     ensures usual { IfOk result (λ g. IsTrue (usual_settings settings) → Usual g) }
 {
@@ -38,7 +34,7 @@ fn checked(settings: Settings, seeds: &[u16]) -> Result<Geometry, Refusal>
     if seeds.len() as u64 != settings.buckets {
         return Err(Refusal::Lengths);
     }
-    Ok(geometry_of(settings))
+    Ok(Geometry::new(settings))
 }
 
 // Looks a hash up. It need not be that of a key, and a seed is used as it stands. With the default settings the geometry's numbers
@@ -47,7 +43,7 @@ pub fn lookup(settings: Settings, seeds: &[u16], hash: u64) -> Result<Option<u64
     ensures { said_looked result ≡ lookup_answer settings seeds.now hash }
 {
     if usual_settings(settings) {
-        Ok(lookup_in(literal(checked(settings, seeds)?), seeds, hash))
+        Ok(lookup_in(checked(settings, seeds)?.literal(), seeds, hash))
     } else {
         Ok(lookup_in(checked(settings, seeds)?, seeds, hash))
     }

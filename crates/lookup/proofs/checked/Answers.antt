@@ -1,5 +1,5 @@
 -- The lines of a lookup are those of the settings, 1 to 6, and 13. Past them the geometry is that of the settings. Assumes nothing.
-use Rattle.std.proofs.Common.{◌≡◌, not, eqb, length, [], ◌∷◌, ℕ, sym, ap, subst, arith}
+use Rattle.std.proofs.Common.{◌≡◌, not, eqb, length, [], ◌∷◌, ℕ, sym, arith}
 use Rattle.std.proofs.lemmas.Grind.{common_steps}
 use Rattle.rules.specs.declared.Settings.{Settings}
 use Rattle.rules.specs.Numbers.{first_of, line, lines_to6, lookup_lines}
@@ -7,10 +7,6 @@ use Rattle.rules.proofs.CheckLaws.{numbered_6}
 use Rattle.rules.proofs.Lines.{first_append_zero}
 use Rattle.rules.proofs.Tests.{of_true}
 use Rattle.rules.proofs.RefusalLaws.{refused_first}
-use Rattle.geometry.specs.declared.shape.Geometry.{Geometry}
-use Rattle.geometry.specs.Shape.{Made, geometry_of}
-use Rattle.geometry.specs.Usual.{Usual}
-use Rattle.geometry.proofs.Sizes.{made}
 use Rattle.geometry.proofs.UsualLaws.{usual_of}
 use Rattle.lookup.proofs.checked.Goals as goal
 
@@ -36,12 +32,5 @@ unfolding first_of
 returns-clause-number c =
     grind (arith, common_steps, rest c.args.settings (length c.args.seeds.now) c.in_ok-check_to_6.ensures.number)
 
-pub returns-clause-made : goal.returns-clause-made
-returns-clause-made c = subst Made (sym c.geometry_of.ensures) (made c.args.settings c.in_ok-check_to_6.ensures.usable)
-
-pub returns-clause-same : goal.returns-clause-same
-unfolding geometry_of
-returns-clause-same c = ap (λ (g : Geometry). g.settings) c.geometry_of.ensures
-
 pub returns-clause-usual : goal.returns-clause-usual
-returns-clause-usual c = λ t. subst Usual (sym c.geometry_of.ensures) (usual_of c.args.settings (of_true t))
+returns-clause-usual c = λ t. usual_of c.args.settings (of_true t) c.new.result c.new.ensures

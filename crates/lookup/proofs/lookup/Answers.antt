@@ -5,7 +5,6 @@ use Rattle.std.proofs.lemmas.Grind.{common_steps}
 use Rattle.rules.specs.declared.Settings.{Settings}
 use Rattle.rules.specs.Holes.{looked_up}
 use Rattle.rules.specs.Answers.{lookup_answer}
-use Rattle.geometry.specs.declared.shape.Geometry.{Geometry}
 use Rattle.lookup.proofs.Cases.{looked_says}
 use Rattle.lookup.proofs.lookup.Goals as goal
 
@@ -26,7 +25,7 @@ unfolding lookup_answer
 returns-in_ok-checked c =
     let a = c.args in
     looked_says (Ok c.lookup_in.result) _ (looked_up a.settings a.seeds.now a.hash) c.in_ok-checked.ensures.number
-    (c.lookup_in.ensures ∙ ap (λ (g : Geometry). looked_up g.settings a.seeds.now a.hash) c.literal.ensures ∙ ap (λ (s : Settings). looked_up s a.seeds.now a.hash) c.in_ok-checked.ensures.same)
+    (c.lookup_in.ensures ∙ ap (λ (s : Settings). looked_up s a.seeds.now a.hash) c.literal.ensures ∙ ap (λ (s : Settings). looked_up s a.seeds.now a.hash) c.in_ok-checked.ensures.same)
 
 pub returns-in_ok-checked-2 : goal.returns-in_ok-checked-2
 unfolding lookup_answer
