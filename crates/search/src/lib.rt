@@ -48,10 +48,9 @@ fn search_distinct(
     if has_equal(keys, &mut work[mid..to]) {
         return 0;
     }
-    let best = best_distinct(ring, table, work, at, size, start, to, count, layouts);
-    if best.cost == u64::MAX {
+    let Some(best) = best_distinct(ring, table, work, at, size, start, to, count, layouts) else {
         return 0;
-    }
+    };
     let a = at + best.r * size;
     settle(ring, work, a, size, start, best.j, bitmap);
     seed_of(ring, layouts, best.r, best.j)
@@ -79,10 +78,9 @@ pub fn search(
     let mid = at + z * layouts;
     let to = at + z * (layouts + 2);
     let total = prepare(g, ring, keys, start, work, at, to, count);
-    let best = best_free(ring, table, work, at, size, to, count, layouts, total);
-    if best.cost == u64::MAX {
+    let Some(best) = best_free(ring, table, work, at, size, to, count, layouts, total) else {
         return 0;
-    }
+    };
     let a = at + best.r * size;
     if settle(ring, work, a, size, start, best.j, bitmap) {
         return seed_of(ring, layouts, best.r, best.j);
