@@ -18,6 +18,7 @@ use self::queues::Queues;
 
 // The buckets that have entered and are not taken: those below 64 keys in queues, all of them in the cyclic set, and of
 // those of 64 keys and more the one that goes first. They lie from `oldest` on; `next` is the bucket to enter.
+#[derive(Drop)]
 pub struct Window {
     queues: Queues,
     set: [u64; 16],
