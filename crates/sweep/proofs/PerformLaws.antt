@@ -26,8 +26,7 @@ use Rattle.checks.specs.declared.Verdict.{Verdict}
 use Rattle.checks.specs.Verdicts.{Judged}
 use Rattle.rules.proofs.AnswerLaws as Laws
 use Rattle.geometry.specs.declared.shape.Geometry.{Geometry}
-use Rattle.sweep.specs.declared.turning.Ended.{Ended}
-use Rattle.sweep.specs.declared.turning.Ended.TheVariants.{All, At}
+use Rattle.std.specs.Prelude.{Result, Ok, Err, ⊤}
 use Rattle.sweep.specs.Counting.{Regular}
 use Rattle.sweep.specs.Sweeping.{Blank, Ran}
 use Rattle.sweep.proofs.StartLaws.{end_none, end_some}
@@ -90,10 +89,10 @@ module _ {i : Input} {how : How} {g : Geometry} {z words : ℕ} {seeds bitmap wo
       e3 ∙ ap (λ (ws : List ℕ). replicate words 0 ++ ws) (drop_at part (drop words work1) words l ∙ cleared_rest words work work1 e1)
       ∙ ap (λ (k : ℕ). replicate k 0 ++ drop k work) p.words_are
 
-  module _ {r : Ended} {seeds2 bitmap2 : List ℕ} (part : List ℕ) {work1 work3 : List ℕ} (e : Ran i how r seeds2 bitmap2)
+  module _ {r : Result ⊤ ℕ} {seeds2 bitmap2 : List ℕ} (part : List ℕ) {work1 work3 : List ℕ} (e : Ran i how r seeds2 bitmap2)
       (e1 : work1 ≡ replicate words 0 ++ drop words work) (l : length part ≡ words) (e3 : work3 ≡ replicate words 0 ++ drop words (part ++ drop words work1)) where
     -- all turns were taken
-    pub left_done : {counts : Counts} → r ≡ All → counts ≡ counts_of i seeds2 → Left i how seeds bitmap work (record { outcome = Done counts }) seeds2 bitmap2 work3
+    pub left_done : {counts : Counts} → r ≡ Ok tt → counts ≡ counts_of i seeds2 → Left i how seeds bitmap work (record { outcome = Done counts }) seeds2 bitmap2 work3
     unfolding said_sweep said_outcome
     left_done {counts} h c =
         let s = Laws.sweep_done by_low_bits how i (lent_of seeds bitmap work) seeds bitmap work p.fine (end_none (stops_at by_low_bits how i) (sym h ∙ e.answer)) in
@@ -105,7 +104,7 @@ module _ {i : Input} {how : How} {g : Geometry} {z words : ℕ} {seeds bitmap wo
         }
 
     -- or a bucket ended the sweep
-    pub left_stopped : {b : ℕ} {seeds3 bitmap3 : List ℕ} → r ≡ At b → seeds3 ≡ replicate (length seeds) 0 → bitmap3 ≡ replicate (length bitmap) 0
+    pub left_stopped : {b : ℕ} {seeds3 bitmap3 : List ℕ} → r ≡ Err b → seeds3 ≡ replicate (length seeds) 0 → bitmap3 ≡ replicate (length bitmap) 0
         → Left i how seeds bitmap work (record { outcome = Refused 14 (Bucket b) }) seeds3 bitmap3 work3
     unfolding said_sweep said_outcome named_by
     left_stopped {b} h es eb =

@@ -9,14 +9,12 @@ ghost use Rattle.rules.specs.Answers.{said_sweep, sweep_answer, sweep_seeds, swe
 ghost use Rattle.sweep.specs.Performing.{Performing, Left};
 
 pub mod chunks;
-pub mod clearing;
 pub mod counting;
 pub mod moving;
 pub mod turning;
 
-use self::clearing::{clear, clear_seeds};
 use self::counting::counted;
-use self::turning::{Ended, run};
+use self::turning::run;
 use checks::check_all;
 use geometry::shape::{Geometry, geometry_of};
 use rules::{Counts, How, Named, Outcome, Settings, SweepRecord};
@@ -55,10 +53,9 @@ fn perform(
     ensures { Left (input_of g.settings weights hashes.now begins.now table.now) how
         seeds.old bitmap.old work.old result seeds.new bitmap.new work.new }
 {
-    let size = bitmap.len();
-    clear_seeds(seeds);
-    clear(bitmap, size);
-    clear(work, words);
+    seeds.fill(0);
+    bitmap.fill(0);
+    work[..words].fill(0);
     let ended = run(
         g,
         weights,
@@ -71,12 +68,12 @@ fn perform(
         bitmap,
         &mut work[..words],
     );
-    clear(work, words);
+    work[..words].fill(0);
     match ended {
-        Ended::All => done(counted(begins, seeds)),
-        Ended::At(b) => {
-            clear_seeds(seeds);
-            clear(bitmap, size);
+        Ok(()) => done(counted(begins, seeds)),
+        Err(b) => {
+            seeds.fill(0);
+            bitmap.fill(0);
             refused(14, Named::Bucket(b))
         }
     }
