@@ -8,12 +8,10 @@ ghost use Rattle.checks.specs.Homes.{Begun};
 ghost use Rattle.level_check.specs.Check.{level_of, said_matched, level_answer, check_answer, check_scratch};
 
 mod first;
-mod maps;
 mod seeds;
 mod slots;
 
 use self::first::first_number;
-use self::maps::{clear, same_words};
 use self::seeds::seeds_bad;
 use self::slots::mark_buckets;
 use geometry::shape::{Geometry, geometry_of};
@@ -43,17 +41,17 @@ fn judge(
     ensures scratch { scratch.new ≡ replicate (length scratch.old) 0 }
 {
     let s = g.settings;
-    clear(scratch);
+    scratch.fill(0);
     if seeds_bad(power_of_two(s.sb), begins, hashes.len(), seeds) {
         return Matched::Refused(28, Named::NoBucket);
     }
     let b = mark_buckets(g, hashes, begins, seeds, scratch);
     if b < seeds.len() {
-        clear(scratch);
+        scratch.fill(0);
         return Matched::Refused(29, Named::Bucket(b as u64));
     }
-    let same = same_words(bitmap, scratch);
-    clear(scratch);
+    let same = bitmap == &*scratch;
+    scratch.fill(0);
     if same {
         return Matched::Accepted;
     }

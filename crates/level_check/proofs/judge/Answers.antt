@@ -1,4 +1,4 @@
--- Each way out says what `level_answer` says there, and leaves the scratch as the last `clear` made it: all zero.
+-- Each way out says what `level_answer` says there, and leaves the scratch as the last `fill` made it: all zero.
 use lib.ListN.{length}
 use native.Mathlib.Omega.{arith}
 use Rattle.level_check.proofs.Judging.{blank, refill, says_28, says_29, says_30, says_accepted}
@@ -10,12 +10,12 @@ returns-then-seeds_bad c =
     record {
       answer = says_28 a.g.settings a.hashes.now a.begins.now a.seeds.now a.bitmap.now c.requires.seeds_len.0
           c.power_of_two.ensures.0 c.seeds_bad.ensures c.if-seeds_bad.true;
-      scratch = c.clear.ensures;
+      scratch = c.fill.ensures.after (λ y e. e);
     }
 
 pub mark_buckets-b-requires : goal.mark_buckets-b-requires
 mark_buckets-b-requires c =
-    let w = blank _ _ _ c.clear.ensures c.requires.seeds_len.2 in
+    let w = blank _ _ _ (c.fill.ensures.after (λ y e. e)) c.requires.seeds_len.2 in
     record {
       made = (c.requires.made, w.0);
       begun = c.requires.begun;
@@ -28,7 +28,7 @@ returns-then-b-seeds c =
     record {
       answer = says_29 a.g.settings a.hashes.now a.begins.now a.seeds.now a.bitmap.now c.requires.seeds_len.0
           c.power_of_two.ensures.0 c.seeds_bad.ensures c.if-seeds_bad.false c.mark_buckets-b.ensures c.if-b-seeds.true;
-      scratch = refill _ (length c.mark_buckets-b.new.scratch) _ c.clear-then-b-seeds.ensures (omega arith);
+      scratch = refill _ (length c.mark_buckets-b.new.scratch) _ (c.fill-then-b-seeds.ensures.after (λ y e. e)) (omega arith);
     }
 
 pub returns-then-same : goal.returns-then-same
@@ -37,8 +37,8 @@ returns-then-same c =
     record {
       answer = says_accepted a.g.settings a.hashes.now a.begins.now a.seeds.now a.bitmap.now c.requires.seeds_len.0
           c.power_of_two.ensures.0 c.seeds_bad.ensures c.if-seeds_bad.false c.mark_buckets-b.ensures c.if-b-seeds.false
-          c.same_words-same.ensures c.if-same.true;
-      scratch = refill _ (length c.mark_buckets-b.new.scratch) _ c.clear-2.ensures (omega arith);
+          c.eq-same.ensures c.if-same.true;
+      scratch = refill _ (length c.mark_buckets-b.new.scratch) _ (c.fill-2.ensures.after (λ y e. e)) (omega arith);
     }
 
 pub returns : goal.returns
@@ -47,6 +47,6 @@ returns c =
     record {
       answer = says_30 a.g.settings a.hashes.now a.begins.now a.seeds.now a.bitmap.now c.requires.seeds_len.0
           c.power_of_two.ensures.0 c.seeds_bad.ensures c.if-seeds_bad.false c.mark_buckets-b.ensures c.if-b-seeds.false
-          c.same_words-same.ensures c.if-same.false;
-      scratch = refill _ (length c.mark_buckets-b.new.scratch) _ c.clear-2.ensures (omega arith);
+          c.eq-same.ensures c.if-same.false;
+      scratch = refill _ (length c.mark_buckets-b.new.scratch) _ (c.fill-2.ensures.after (λ y e. e)) (omega arith);
     }
