@@ -8,6 +8,7 @@ use Rattle.rules.specs.Good.{Moderate}
 use Rattle.rules.specs.Order.{input_of}
 use Rattle.rules.specs.Chunks.{chunk_count}
 use Rattle.rules.specs.Chunks as R
+use Rattle.std.proofs.lemmas.Result.{err_from_is_err_and}
 use Rattle.sweep.proofs.StartLaws.{rests}
 use Rattle.sweep.proofs.RunLaws.{next_range, ran_all, ran_at, span_is, span_count, span_room, rests_first, rests_more}
 use Rattle.sweep.proofs.turning.run.Goals as goal
@@ -59,7 +60,18 @@ run_range-requires c =
     }
 
 pub returns-in_err-run_range : goal.returns-in_err-run_range
-returns-in_err-run_range c = ?
+returns-in_err-run_range c =
+    let i = input_of c.args.g.settings c.args.weights c.args.hashes.now c.args.begins.now c.args.table.now in
+    let n = c.chunk_count-chunks.result in
+    let m = c.args.how.chunks in
+    let e = c.chunk_count-chunks.ensures.0 in
+    let k = c.loop-k.k in
+    let here = c.loop-k.invariant.0 i m e (rests c.requires _ _ c.weight_table-by_size.ensures) in
+    let h : k < length (R.ranges i.settings m) = omega (arith, span_count i c.args.g refl n m e, c.loop-k-test.true) in
+    let at = span_is i c.args.g refl n m e k _ _ c.range_at-span.ensures in
+    let f = c.run_range.ensures i _ (next_range m k here h _ _ at) in
+    let p = err_from_is_err_and c.from_residual.result c.from_residual.ensures.1 in
+    rw (p.1, p.2) (ran_at m k h at f c.in_err-run_range.was c.args.how refl refl)
 
 pub loop-k-preserved : goal.loop-k-preserved
 loop-k-preserved c = (
@@ -71,7 +83,7 @@ loop-k-preserved c = (
       let h : k < length (R.ranges i.settings m) = omega (arith, span_count i c.args.g same n m e, c.loop-k-test.true) in
       let at = span_is i c.args.g same n m e k _ _ c.range_at-span.ensures in
       let next = next_range m k here h _ _ at in
-      rests_more m k h at next (c.run_range.ensures i _ next) ? c.run_range.auto.work,
+      rests_more m k h at next (c.run_range.ensures i _ next) c.in_ok-run_range.was c.run_range.auto.work,
   c.run_range.auto.seeds ∙ c.loop-k.invariant.1,
   c.run_range.auto.bitmap ∙ c.loop-k.invariant.2,
   c.run_range.auto.work ∙ c.loop-k.invariant.3,

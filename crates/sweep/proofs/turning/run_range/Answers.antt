@@ -4,6 +4,7 @@ use mathlib.Core.List.{List}
 use mathlib.Core.Path.{sym, ap, subst}
 use Rattle.rules.specs.declared.Settings.{Settings}
 use Rattle.rules.specs.Order.{Input}
+use Prim.Native.Nat.{ℕ}
 use Rattle.window.specs.Window.{State, state_of}
 use Rattle.sweep.specs.Sweeping.{Next, Starting}
 use Rattle.sweep.proofs.StepLaws.{ring_shape, ring_room, caches_out, first_out}
@@ -29,7 +30,7 @@ begun : (c : After-new-window) (i : Input) (pre : List ℕ)
 begun c i pre n =
     let l = n.resting.level in
     let P : State → Type 0 = λ s. Starting i c.args.g c.args.bump c.args.hashes.now c.args.begins.now c.args.table.now c.args.weights.now pre c.args.lo c.args.hi c.load-from.result c.args.z
-        s c.args.seeds.now c.args.bitmap.now c.load-from.new.work in
+    s c.args.seeds.now c.args.bitmap.now c.load-from.new.work in
     subst P (sym c.new-window.ensures) (starts n (caches_out l c.requires.ring_value c.load-from.ensures.caches) c.load-from.auto.work (first_out l c.requires.ring_value _ _ c.load-from.ensures.upper_bound))
 
 pub take_turns-requires : goal.take_turns-requires

@@ -8,7 +8,7 @@ use Rattle.window.specs.Window.{state_of, Full, Turned}
 use Rattle.rules.specs.declared.Settings.{Settings}
 use Rattle.rules.specs.Geometry as G
 use Rattle.rules.specs.Order.{Input}
-use Prim.Native.Nat.{ℕ, ◌<◌, ◌≤◌}
+use Prim.Native.Nat.{ℕ, ◌≤◌}
 use mathlib.Core.Bool.{true≢false}
 use mathlib.Core.List.{List}
 use mathlib.Core.Path.{refl, sym, ap, ◌∙◌, subst}
@@ -58,7 +58,7 @@ advance-first_slot-requires c =
 -- a turn of any such start, with the ring moved on
 module _ (c : After-advance-first_slot) (i : Input) (pre : List ℕ)
     (h : Starting i c.args.g c.args.bump c.args.hashes.now c.args.begins.now c.args.table.now c.args.weights.now pre c.args.lo c.args.hi c.args.from c.args.z
-        (state_of c.args.window.now) c.args.seeds.now c.args.bitmap.now c.args.work.now) where
+    (state_of c.args.window.now) c.args.seeds.now c.args.bitmap.now c.args.work.now) where
   full : Full i c.args.lo c.args.hi c.loop-turn._turn (state_of c.refill.new.self)
   full = c.refill.ensures i _ _ h.ranged (c.loop-turn.invariant.0 i pre h).windowed
 
