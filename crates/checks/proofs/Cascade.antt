@@ -19,7 +19,7 @@ use Rattle.rules.specs.Geometry.{entries}
 use Rattle.rules.specs.Order.{Input, input_of, size_of, keys_of}
 use Rattle.rules.specs.Numbers.{Lent, first_of, moderate, rising, begins_bad, table_bad, small_bucket, is_home, all_home, largest, largest_of, lines_to7, line8, line9, line10, line11, line12, line13, line20, sweep_lines}
 use Rattle.rules.specs.Answers.{number_of, sweep_number, work_needed}
-use Rattle.rules.proofs.Tests.{is_true, not_or_left, not_or_right, of_not_not}
+use Rattle.rules.proofs.Tests.{not_or_left, not_or_right, of_not_not}
 use Rattle.rules.proofs.InputLaws.{rising_steps}
 use Rattle.rules.proofs.Lines.{Numbered, first_append_zero}
 use Rattle.rules.proofs.RefusalLaws.{refused_first}
@@ -133,6 +133,3 @@ module _ (begins : List ℕ) (n keys : ℕ) (pass : T (not (begins_bad begins n 
     rises = rising_steps begins n rise;
     within = λ b l. omega (arith, on (n - b) b (omega arith), ends);
   }
-
-  pub begins_rise : (n + 1 ≤ length begins) × (rising begins n ≡ true)
-  begins_rise = (omega (arith, long), is_true (rising begins n) rise)
