@@ -2,38 +2,37 @@
 use mathlib.Core.Path.{◌≡◌, refl, sym, ap, ◌∙◌}
 use mathlib.Core.Bool.{Bool, true, false, not, cond}
 use mathlib.Core.List.{List, [], ◌∷◌, ◌++◌}
+use lib.IntN.{ℤ}
 use Prim.Native.Nat.{ℕ, zero, suc, ◌+◌, ◌-◌, ◌<◌, ◌≤◌}
 use native.Mathlib.Omega.{arith}
 use native.Mathlib.Nat.{le_refl, le_trans}
 use lib.Dec.{T, leb, eqb, eqb→eq}
 use lib.ListN.{length, get_or}
-use borrow.Author.Tests.{le-leb, lt-leb}
+use borrow.Author.Tests.{le-leb, lt-leb, ne_eqb}
 use Rattle.words.specs.Cases.{lt_or_ge}
-use mathlib.Core.Logic.{⊎_elim}
+use mathlib.Core.Logic.{⊎_elim, ◌≢◌}
 use Rattle.rules.specs.declared.Refusal as R
+use Rattle.rules.specs.declared.Settings.{Settings}
 use Rattle.rules.specs.declared.How.{How}
 use Rattle.rules.specs.Lists.{every, below}
 use Rattle.rules.specs.Geometry.{entries}
-use Rattle.rules.specs.Order.{Input, size_of}
-use Rattle.rules.specs.Numbers.{Lent, first_of, moderate, rising, begins_bad, table_bad, small_bucket, all_home, largest, largest_of, lines_to7, line8, line9, line10, line11, line12, line13, line20, sweep_lines}
+use Rattle.rules.specs.Order.{Input, input_of, size_of, keys_of}
+use Rattle.rules.specs.Numbers.{Lent, first_of, moderate, rising, begins_bad, table_bad, small_bucket, is_home, all_home, largest, largest_of, lines_to7, line8, line9, line10, line11, line12, line13, line20, sweep_lines}
 use Rattle.rules.specs.Answers.{number_of, sweep_number, work_needed}
-use Rattle.rules.proofs.Tests.{is_true, not_or_left, not_or_right, of_not_not}
+use Rattle.rules.proofs.Tests.{not_or_left, not_or_right, of_not_not}
 use Rattle.rules.proofs.InputLaws.{rising_steps}
 use Rattle.rules.proofs.Lines.{Numbered, first_append_zero}
 use Rattle.rules.proofs.RefusalLaws.{refused_first}
 use Rattle.rules.proofs.CheckLaws.{numbered_7}
 use Rattle.checks.specs.Homes.{Begun}
 use Rattle.checks.specs.declared.Room.{Room}
-use Rattle.checks.specs.Verdicts.{RoomFor, input_lines, lent_bad}
+use Rattle.checks.specs.Verdicts.{RoomFor, group_lines, input_lines, lent_bad}
 use Rattle.checks.proofs.Every.{never}
 
 -- ---- the tests of the lines 8 to 12
 module _ (i : Input) where
   abbrev pub test8 : Bool
   test8 = not (every moderate i.weights)
-
-  abbrev pub test9 : Bool
-  test9 = begins_bad i.begins i.settings.buckets (length i.hashes)
 
   abbrev pub test10 : Bool
   test10 = not (every (small_bucket i) (below i.settings.buckets))
@@ -65,6 +64,30 @@ module _ (i : Input) where
   pub many_keys : 4096 < largest i → test10 ≡ true
   unfolding largest
   many_keys h = ap not (large_by (below i.settings.buckets) h)
+
+-- the lines 9 to 11 read neither weights nor table
+pub bare : (s : Settings) (weights : List ℤ) (hashes begins table : List ℕ) → first_of (group_lines (input_of s [] hashes begins [])) ≡ first_of (group_lines (input_of s weights hashes begins table))
+unfolding line9 line10 line11 small_bucket all_home is_home size_of keys_of
+bare s weights hashes begins table = refl
+
+-- ---- the lines after 8 and 20
+module _ (how : How) (i : Input) (e8 : false ≡ test8 i) (e20 : how.chunks ≢ 0) where
+  late : first_of (input_lines how i) ≡ first_of (group_lines i ++ line12 i ∷ [])
+  unfolding first_of line8 line20
+  late = rw (sym e8, ne_eqb how.chunks 0 e20) refl
+
+  -- one of 9 to 11 applies
+  pub refused_11 : (why : R.Refusal) → number_of why ≡ first_of (group_lines i) → number_of why ≡ first_of (input_lines how i)
+  refused_11 why e = refused_first (group_lines i) (line12 i ∷ []) why e ∙ sym late
+
+  numbered_11 : Numbered (group_lines i)
+  unfolding line9 line10 line11
+  numbered_11 = tt
+
+  -- none of them does, so that 12 decides
+  pub twelfth : 0 ≡ first_of (group_lines i) → (t : Bool) → t ≡ test12 i → cond t 12 0 ≡ first_of (input_lines how i)
+  unfolding first_of line12
+  twelfth e t h = ap (λ (b : Bool). cond b 12 0) h ∙ sym (late ∙ first_append_zero (group_lines i) (line12 i ∷ []) numbered_11 (sym e))
 
 -- ---- the lines after 1 to 7
 module _ (how : How) (i : Input) (lent : Lent) (fine : 0 ≡ first_of (lines_to7 i.settings)) where
@@ -110,6 +133,3 @@ module _ (begins : List ℕ) (n keys : ℕ) (pass : T (not (begins_bad begins n 
     rises = rising_steps begins n rise;
     within = λ b l. omega (arith, on (n - b) b (omega arith), ends);
   }
-
-  pub begins_rise : (n + 1 ≤ length begins) × (rising begins n ≡ true)
-  begins_rise = (omega (arith, long), is_true (rising begins n) rise)

@@ -60,3 +60,12 @@ module _ {A : Type 0} (p : A → Bool) (d : A) where
   list_fails [] k l e = let z : ⊥ = omega arith in absurd z
   list_fails (x ∷ xs) zero l e = rw e refl
   list_fails (x ∷ xs) (suc k) l e = rw (list_fails xs k (omega arith) e) (never (p x))
+
+-- a test, from the answer that it fails
+pub passes : (t : Bool) → false ≡ not t → t ≡ true
+passes true e = refl
+passes false e = e
+
+pub fails : (t : Bool) → true ≡ not t → t ≡ false
+fails true e = e
+fails false e = refl

@@ -2,15 +2,14 @@
 use mathlib.Core.Path.{◌≡◌, refl}
 use mathlib.Core.Bool.{Bool, not}
 use mathlib.Core.List.{List}
-use Prim.Native.Nat.{ℕ, ◌+◌, ◌<◌, ◌≤◌}
-use native.Mathlib.Omega.{arith}
+use Prim.Native.Nat.{ℕ}
 use lib.ListN.{take, drop}
 use Rattle.rules.specs.declared.Settings.{Settings}
 use Rattle.rules.specs.Lists.{every, below}
 use Rattle.rules.specs.Order.{Input, size_of, keys_of}
 use Rattle.rules.specs.Numbers.{is_home, all_home}
-use Rattle.groups.specs.Groups.{size_in, begin_of, Grouped}
-use Rattle.checks.specs.Homes.{all_in, Strayed, Begun}
+use Rattle.groups.specs.Groups.{size_in, begin_of}
+use Rattle.checks.specs.Homes.{all_in, Strayed}
 
 -- the keys of bucket b, as `keys_of` hands them over
 abbrev pub part_of : (hashes begins : List ℕ) → (b : ℕ) → List ℕ
@@ -33,7 +32,3 @@ unfolding all_at
 strayed_by s hashes begins n r e =
     let at : r ≡ not (all_at s hashes begins n) = e in
     record { is = λ i es eh eb. cc (at, es, eh, eb, all_of i n) }
-
--- what `keys_of` asks of each bucket
-pub begun_grouped : {begins : List ℕ} {n keys : ℕ} → Begun begins n keys → (b : ℕ) → b < n → Grouped begins b × (begin_of begins (b + 1) ≤ keys)
-begun_grouped g b l = (record { placed = omega (arith, g.long); rises = g.rises b l }, g.within (b + 1) (omega arith))

@@ -1,5 +1,5 @@
 -- What the checks of a sweep answer. Assumes nothing.
-use Rattle.std.specs.Prelude.{◌≡◌, Bool, not, ◌||◌, List, [], ◌∷◌, ℕ, ◌^◌, ◌≤◌, ◌<◌, eqb, ltb}
+use Rattle.std.specs.Prelude.{◌≡◌, Bool, not, ◌||◌, List, [], ◌∷◌, ◌++◌, ℕ, ◌^◌, ◌≤◌, ◌<◌, eqb, ltb}
 use Rattle.rules.specs.declared.Settings.{Settings}
 use Rattle.rules.specs.declared.How.{How}
 use Rattle.rules.specs.Order.{Input}
@@ -7,9 +7,13 @@ use Rattle.rules.specs.Numbers.{Line, largest, bitmap_words, line8, line9, line1
 use Rattle.rules.specs.Answers.{work_needed}
 use Rattle.checks.specs.declared.Room.{Room}
 
+-- the lines 9 to 11
+abbrev pub group_lines : Input → List Line
+group_lines i = line9 i ∷ line10 i ∷ line11 i ∷ []
+
 -- the lines 8, 20 and 9 to 12
 abbrev pub input_lines : How → Input → List Line
-input_lines how i = line8 i ∷ line20 how ∷ line9 i ∷ line10 i ∷ line11 i ∷ line12 i ∷ []
+input_lines how i = line8 i ∷ line20 how ∷ group_lines i ++ line12 i ∷ []
 
 -- the test of line 13, with W at hand
 abbrev pub lent_bad : Settings → (words seeds bitmap work : ℕ) → Bool

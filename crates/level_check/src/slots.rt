@@ -35,14 +35,14 @@ fn mark_bucket(g: Geometry, keys: &[u64], seed: u16, scratch: &mut [u64]) -> boo
     seed != 0 && mark_keys(g, keys, seed, scratch)
 }
 
-// The lowest bucket at which a slot is met again, or the number of buckets; the slots met are marked in an empty scratch.
+// The lowest bucket at which a slot is met again, if there is one; the slots met are marked in an empty scratch.
 pub fn mark_buckets(
     g: Geometry,
     hashes: &[u64],
     begins: &[u32],
     seeds: &[u16],
     scratch: &mut [u64],
-) -> usize
+) -> Option<usize>
     requires made { (Made g) × (g.settings.m ≤ 64 * length scratch.old) }
     requires begun { Begun begins.now (length seeds.now) (length hashes.now) }
     requires scratch_value { scratch.old ≡ bitmap_of g.settings.m [] }
@@ -50,8 +50,8 @@ pub fn mark_buckets(
 {
     for (b, seed) in seeds.iter().enumerate() {
         if mark_bucket(g, keys_of(hashes, begins, b), *seed, scratch) {
-            return b;
+            return Some(b);
         }
     }
-    seeds.len()
+    None
 }

@@ -1,58 +1,54 @@
-// Lookup of a hash: Bumped if its bucket's seed is 0, else its position (rule H).
+// Lookup of a hash: nothing if its bucket's seed is 0, for then it was bumped, else its position (rule H).
 #![tactic(auto)]
 
-ghost use Rattle.std.specs.Prelude.{◌≡◌, length};
+ghost use Rattle.std.specs.Prelude.{◌≡◌, length, option_to_list, OnOk, IfOk, IsTrue};
 ghost use Rattle.rules.specs.Holes.{looked_up};
-ghost use Rattle.rules.specs.Answers.{Answer, said_looked, lookup_answer};
+ghost use Rattle.rules.specs.Numbers.{first_of, lookup_lines};
+ghost use Rattle.rules.specs.Answers.{refused_by, said_looked, lookup_answer};
 ghost use Rattle.geometry.specs.Shape.{Made};
-ghost use Rattle.geometry.specs.Usual.{usual_settings};
+ghost use Rattle.geometry.specs.Usual.{Usual, usual_settings};
 
 use geometry::place::{bucket_of, position};
-use geometry::settings::number_to_6;
+use geometry::settings::check_to_6;
 use geometry::shape::{Geometry, geometry_of};
 use geometry::usual::{literal, usual_settings};
-use rules::{Looked, Settings};
+use rules::{Refusal, Settings};
 
 // Looks a hash up in a geometry that is made once for many lookups.
-pub fn lookup_in(g: Geometry, seeds: &[u16], hash: u64) -> Looked
+pub fn lookup_in(g: Geometry, seeds: &[u16], hash: u64) -> Option<u64>
     requires made { Made g }
     requires seeds_len { length seeds.now ≡ g.settings.buckets }
-    ensures { said_looked result ≡ Answer (looked_up g.settings seeds.now hash) }
+    ensures { option_to_list result ≡ looked_up g.settings seeds.now hash }
 {
-    let b = bucket_of(g, hash) as usize;
-    let seed = seeds[b];
-    if seed == 0 {
-        return Looked::Bumped;
+    match seeds[bucket_of(g, hash) as usize] {
+        0 => None,
+        seed => Some(position(g, hash, seed)),
     }
-    Looked::At(position(g, hash, seed))
 }
 
-// The lookup past the choice of its shape: in the default one the geometry's numbers are literals.
-fn lookup_by(default: bool, settings: Settings, seeds: &[u16], hash: u64) -> Looked
-    requires { default ≡ usual_settings settings }
-    ensures { said_looked result ≡ lookup_answer settings seeds.now hash }
+// The geometry of settings by which a lookup goes, where it refuses neither them nor the seeds.
+fn checked(settings: Settings, seeds: &[u16]) -> Result<Geometry, Refusal>
+    ensures number { refused_by result ≡ first_of (lookup_lines settings (length seeds.now)) }
+    ensures seeds_len { OnOk result (length seeds.now ≡ settings.buckets) }
+    ensures made { IfOk result (λ g. Made g) }
+    ensures same { IfOk result (λ g. g.settings ≡ settings) }
+    ensures usual { IfOk result (λ g. IsTrue (usual_settings settings) → Usual g) }
 {
-    let n = number_to_6(settings);
-    if n != 0 {
-        return Looked::Refused(n);
+    check_to_6(settings)?;
+    if seeds.len() as u64 != settings.buckets {
+        return Err(Refusal::Lengths);
     }
-    let buckets = settings.buckets;
-    if seeds.len() as u64 != buckets {
-        return Looked::Refused(13);
-    }
-    let g = geometry_of(settings);
-    if default {
-        return lookup_in(literal(g), seeds, hash);
-    }
-    lookup_in(g, seeds, hash)
+    Ok(geometry_of(settings))
 }
 
-// Looks a hash up. It need not be that of a key, and a seed is used as it stands.
-pub fn lookup(settings: Settings, seeds: &[u16], hash: u64) -> Looked
+// Looks a hash up. It need not be that of a key, and a seed is used as it stands. With the default settings the geometry's numbers
+// are literals.
+pub fn lookup(settings: Settings, seeds: &[u16], hash: u64) -> Result<Option<u64>, Refusal>
     ensures { said_looked result ≡ lookup_answer settings seeds.now hash }
 {
     if usual_settings(settings) {
-        return lookup_by(true, settings, seeds, hash);
+        Ok(lookup_in(literal(checked(settings, seeds)?), seeds, hash))
+    } else {
+        Ok(lookup_in(checked(settings, seeds)?, seeds, hash))
     }
-    lookup_by(false, settings, seeds, hash)
 }

@@ -1,34 +1,40 @@
--- A look at neighbours from the front: a pair that is equal settles it, any other pair leaves it to the rest of the run, and where
--- at most one key is left there is no pair. Assumes nothing.
-use mathlib.Core.Path.{◌≡◌, refl, sym, ap, ◌∙◌}
-use mathlib.Core.Bool.{Bool, true, false, ◌||◌}
-use mathlib.Core.List.{List, [], ◌∷◌}
-use Prim.Native.Nat.{ℕ, suc, ◌+◌, ◌<◌, ◌≤◌}
-use native.Mathlib.Numerals.{add-one}
-use native.Mathlib.Omega.{arith}
-use lib.Dec.{eqb}
-use lib.ListN.{length, get_or, drop, length-drop}
-use lib.Seq.{drop-cons}
+-- A look at neighbours from the front, pair after pair: a pair that is equal settles it, any other pair leaves it to the rest of the
+-- run, and where at most one key is left there is no pair. Assumes nothing.
+use Rattle.std.proofs.Common.{◌≡◌, refl, ap, Bool, true, false, ◌||◌, List, [], ◌∷◌, ℕ, ◌<◌, ◌≤◌, length, get_or, take, drop, Option, Some, None, arith}
+use Rattle.std.specs.Slice.Iter.{windows_rest, windows_size, windows_steps}
+use Rattle.std.specs.declared.slice.Windows.{Windows}
 use borrow.Author.Tests.{eq-eqb, ne_eqb}
-use Rattle.sorting.specs.Runs.{starts, twins}
+use denote.Ref.{Bor}
+use Rattle.sorting.specs.Runs.{twins}
 
-module _ (run : List ℕ) (i : ℕ) where
-  pair : i + 1 < length run → twins (drop i run) ≡ eqb (get_or run i 0) (get_or run (i + 1) 0) || twins (drop (i + 1) run)
-  pair h =
-      ap twins (drop-cons run i 0 (omega arith))
-      ∙ ap (λ (l : List ℕ). starts (get_or run i 0) l || twins (drop (suc i) run)) (drop-cons run (suc i) 0 (omega arith))
-      ∙ ap (λ (p : ℕ). eqb (get_or run i 0) (get_or run p 0) || twins (drop p run)) (sym (add-one i))
+equal_front : (l : List ℕ) → 2 ≤ length l → get_or (take 2 l) 0 0 ≡ get_or (take 2 l) 1 0 → twins l ≡ true
+equal_front [] h e = absurd (omega arith)
+equal_front (x ∷ []) h e = absurd (omega arith)
+equal_front (x ∷ y ∷ zs) h e = ap (λ (b : Bool). b || twins (y ∷ zs)) (eq-eqb x y e)
 
-  pub equal_pair : i + 1 < length run → get_or run i 0 ≡ get_or run (i + 1) 0 → twins (drop i run) ≡ true
-  equal_pair h e = pair h ∙ ap (λ (b : Bool). b || twins (drop (i + 1) run)) (eq-eqb (get_or run i 0) (get_or run (i + 1) 0) e)
+other_front : (l : List ℕ) → 2 ≤ length l → (get_or (take 2 l) 0 0 ≡ get_or (take 2 l) 1 0 → ⊥) → twins l ≡ twins (drop 1 l)
+other_front [] h e = absurd (omega arith)
+other_front (x ∷ []) h e = absurd (omega arith)
+other_front (x ∷ y ∷ zs) h e = ap (λ (b : Bool). b || twins (y ∷ zs)) (ne_eqb x y e)
 
-  pub other_pair : i + 1 < length run → (get_or run i 0 ≡ get_or run (i + 1) 0 → ⊥) → twins (drop i run) ≡ twins (drop (i + 1) run)
-  other_pair h e = pair h ∙ ap (λ (b : Bool). b || twins (drop (i + 1) run)) (ne_eqb (get_or run i 0) (get_or run (i + 1) 0) e)
+no_front : (l : List ℕ) → length l < 2 → twins l ≡ false
+no_front [] k = refl
+no_front (x ∷ []) k = refl
+no_front (x ∷ y ∷ zs) k = absurd (omega arith)
 
-  pub no_pair : length run ≤ i + 1 → twins (drop i run) ≡ false
-  no_pair h = go (drop i run) (omega (arith, length-drop i run))
-    where
-      go : (l : List ℕ) → length l ≤ 1 → twins l ≡ false
-      go [] k = refl
-      go (x ∷ []) k = refl
-      go (x ∷ y ∷ zs) k = absurd (omega arith)
+pub equal_pair : (s t : Windows ℕ) {r : Option (Bor (List ℕ))} {w : Bor (List ℕ)} → r ≡ Some w → windows_steps s r t → windows_size s ≡ 2 → get_or w.now 0 0 ≡ get_or w.now 1 0
+    → twins (windows_rest s) ≡ true
+equal_pair s t e turn two same =
+    let h = rw e at turn in
+    equal_front (windows_rest s) (omega (arith, h.1.0, two)) (rw (h.1.1, two) at same)
+
+pub other_pair : (s t : Windows ℕ) {r : Option (Bor (List ℕ))} {w : Bor (List ℕ)} → r ≡ Some w → windows_steps s r t → windows_size s ≡ 2 → (get_or w.now 0 0 ≡ get_or w.now 1 0 → ⊥)
+    → twins (windows_rest s) ≡ twins (windows_rest t)
+other_pair s t e turn two other =
+    let h = rw e at turn in
+    rw h.1.2 (other_front (windows_rest s) (omega (arith, h.1.0, two)) (rw (h.1.1, two) at other))
+
+pub no_pair : (s t : Windows ℕ) {r : Option (Bor (List ℕ))} → r ≡ None → windows_steps s r t → windows_size s ≡ 2 → twins (windows_rest s) ≡ false
+no_pair s t e turn two =
+    let h = rw e at turn in
+    no_front (windows_rest s) (omega (arith, h.1.0, two))

@@ -1,14 +1,25 @@
-use Rattle.std.proofs.Common.{◌∙◌, not, refl, arith, rules, tests}
-use Rattle.std.proofs.lemmas.Iterator.{YieldsList-from_range}
-use Rattle.std.proofs.lemmas.Iterator.Search.{any_from_yields_List}
-use Rattle.checks.proofs.Every.{some_below}
+use Rattle.std.proofs.Common.{◌≡◌, ◌∙◌, ℕ, List, true, false, not, sym, ap, arith}
+use borrow.Author.Count.{below_more}
+use Rattle.rules.specs.declared.Settings.{Settings}
+use Rattle.checks.specs.Homes.{all_in}
+use Rattle.checks.proofs.Every.{every_each, every_fails, passes, fails}
 use Rattle.checks.proofs.Stray.{home_at, strayed_by}
 use Rattle.checks.proofs.strayed.Goals as goal
+
+home : (s : Settings) (b : ℕ) (keys part : List ℕ) → keys ≡ part → all_in s part b ≡ all_in s keys b
+home s b keys part e = ap (λ ks. all_in s ks b) (sym e)
+
+pub returns-then-strays : goal.returns-then-strays
+returns-then-strays c =
+    let a = c.args in
+    strayed_by a.g.settings a.hashes.now a.begins.now a.buckets true
+    (ap not (sym (every_fails (home_at a.g.settings a.hashes.now a.begins.now) a.buckets c.loop-b.b (omega arith) (home _ _ _ _ c.keys_of.ensures ∙ fails _ c.if-strays.ensures))))
+
+pub loop-b-preserved : goal.loop-b-preserved
+loop-b-preserved c = below_more _ c.loop-b.b c.loop-b.invariant (home _ _ _ _ c.keys_of.ensures ∙ passes _ c.if-strays.ensures)
 
 pub returns : goal.returns
 returns c =
     let a = c.args in
-    let home = home_at a.g.settings a.hashes.now a.begins.now in
-    strayed_by a.g.settings a.hashes.now a.begins.now a.buckets c.any.result
-    (any_from_yields_List (λ b. not (home b)) _ _ _ c.any.ensures.ran (YieldsList-from_range 0 a.buckets a.buckets refl (omega arith)) (λ k b q r. search (rules, tests))
-    ∙ some_below home a.buckets)
+    strayed_by a.g.settings a.hashes.now a.begins.now a.buckets false
+    (ap not (sym (every_each (home_at a.g.settings a.hashes.now a.begins.now) a.buckets (λ b l. c.loop-b.invariant b (omega arith)))))

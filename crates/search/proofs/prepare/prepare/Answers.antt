@@ -16,20 +16,20 @@ literal-requires c =
 pub literal_ring-requires : goal.literal_ring-requires
 literal_ring-requires c = let p = c.requires in usual_ring p.made (c.usual.ensures c.if-usual.true) p.level
 
-pub gather_64-requires : goal.gather_64-requires
-gather_64-requires c =
+pub gather-requires : goal.gather-requires
+gather-requires c =
     let whole = literal_ready c.requires (c.usual.ensures c.if-usual.true) c.literal.ensures c.literal_ring.ensures in
-    record { ready = whole.0; n_value = whole.1 }
+    record { ready = whole.0; n_value = λ _. whole.1 }
 
 pub returns-then-usual : goal.returns-then-usual
 returns-then-usual c =
-    literal_gathered c.requires (c.usual.ensures c.if-usual.true) c.literal.ensures c.literal_ring.ensures c.gather_64.ensures
+    literal_gathered c.requires (c.usual.ensures c.if-usual.true) c.literal.ensures c.literal_ring.ensures c.gather.ensures
 
-pub gather-requires : goal.gather-requires
-gather-requires c = one_ready c.requires c.if-n-le64.true
+pub gather-requires-then-n-le64-clause-ready : goal.gather-requires-then-n-le64-clause-ready
+gather-requires-then-n-le64-clause-ready c = one_ready c.requires c.if-n-le64.true
 
 pub returns-then-n-le64 : goal.returns-then-n-le64
-returns-then-n-le64 c = one_gathered c.requires c.if-n-le64.true c.gather.ensures
+returns-then-n-le64 c = one_gathered c.requires c.if-n-le64.true c.gather-then-n-le64.ensures
 
 pub fill_keys-requires : goal.fill_keys-requires
 fill_keys-requires c =

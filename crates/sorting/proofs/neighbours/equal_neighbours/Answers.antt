@@ -1,43 +1,15 @@
--- `sorting::neighbours::equal_neighbours` meets its contract. The invariant: whether the run has equal neighbours is whether they are among
--- the keys from i on. Assumes nothing.
-use mathlib.Core.Path.{refl, sym, ◌∙◌}
-use native.Mathlib.Omega.{arith}
+-- `sorting::neighbours::equal_neighbours` meets its contract: a pair that is equal settles it, any other pair leaves it to the rest of
+-- the run. Assumes nothing.
+use Rattle.std.proofs.Common.{sym, ◌∙◌}
 use Rattle.sorting.proofs.TwinSteps.{equal_pair, other_pair, no_pair}
 use Rattle.sorting.proofs.neighbours.equal_neighbours.Goals as goal
 
-pub loop-i-init : goal.loop-i-init
-loop-i-init c = (omega arith, refl)
+pub returns-then-pair : goal.returns-then-pair
+returns-then-pair c = sym (equal_pair c.loop-pair.pair-iterator c.next.new.self c.in-Some.is c.next.ensures.steps c.loop-pair.invariant.0 c.if-pair.true) ∙ c.loop-pair.invariant.1
 
-pub overflow_add-i : goal.overflow_add-i
-overflow_add-i c = omega arith
-
-pub offset_bounds-run-i : goal.offset_bounds-run-i
-offset_bounds-run-i c = omega arith
-
-pub bounds-run-i : goal.bounds-run-i
-bounds-run-i c = omega arith
-
-pub overflow_add-i-in-loop-i : goal.overflow_add-i-in-loop-i
-overflow_add-i-in-loop-i c = omega arith
-
-pub offset_bounds-run-i-in-loop-i : goal.offset_bounds-run-i-in-loop-i
-offset_bounds-run-i-in-loop-i c = omega arith
-
-pub bounds-run-i-in-loop-i : goal.bounds-run-i-in-loop-i
-bounds-run-i-in-loop-i c = omega arith
-
-pub returns-then-run-i : goal.returns-then-run-i
-returns-then-run-i c =
-    sym (equal_pair c.args.run.now c.loop-i.i (omega arith) c.if-run-i.true) ∙ c.loop-i.invariant.1
-
-pub overflow_add-i-in-loop-i-2 : goal.overflow_add-i-in-loop-i-2
-overflow_add-i-in-loop-i-2 c = omega arith
-
-pub loop-i-smaller : goal.loop-i-smaller
-loop-i-smaller c = omega arith
-
-pub loop-i-preserved : goal.loop-i-preserved
-loop-i-preserved c = (omega arith, sym (other_pair c.args.run.now c.loop-i.i (omega arith) c.if-run-i.false) ∙ c.loop-i.invariant.1)
+pub loop-pair-preserved : goal.loop-pair-preserved
+loop-pair-preserved c =
+    (c.next.ensures.steps.0 ∙ c.loop-pair.invariant.0, sym (other_pair c.loop-pair.pair-iterator c.next.new.self c.in-Some.is c.next.ensures.steps c.loop-pair.invariant.0 c.if-pair.false) ∙ c.loop-pair.invariant.1)
 
 pub returns : goal.returns
-returns c = sym (no_pair c.args.run.now c.loop-i.i (omega arith)) ∙ c.loop-i.invariant.1
+returns c = sym (no_pair c.loop-pair.pair-iterator c.next.new.self c.in-None.is c.next.ensures.steps c.loop-pair.invariant.0) ∙ c.loop-pair.invariant.1
