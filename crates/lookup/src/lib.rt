@@ -24,6 +24,7 @@ pub fn lookup_in(g: Geometry, seeds: &[u16], hash: u64) -> Option<u64>
 }
 
 // The geometry of settings by which a lookup goes, where it refuses neither them nor the seeds.
+#[tactic(auto, using(crate::proofs::Cases::lookup_first, crate::proofs::Cases::lookup_last, rules::proofs::RefusalLaws::number_positive))]
 fn checked(settings: Settings, seeds: &[u16]) -> Result<Geometry, Refusal>
     ensures number { refused_by result ≡ first_of (lookup_lines settings (length seeds.now)) }
     ensures seeds_len { OnOk result (length seeds.now ≡ settings.buckets) }
