@@ -6,7 +6,7 @@ ghost use Rattle.level_check.specs.Check.{level_of, lent_bad, check_lines};
 
 use checks::check_groups;
 use geometry::settings::check_settings;
-use geometry::shape::geometry_of;
+use geometry::shape::Geometry;
 use rules::{Refusal, Settings};
 
 // Seeds, bitmap or scratch do not fit the settings.
@@ -30,7 +30,7 @@ pub fn check_first(
     ensures { refused_by result ≡ first_of (check_lines (level_of settings hashes.now begins.now) seeds.now bitmap scratch) }
 {
     check_settings(settings)?;
-    check_groups(geometry_of(settings), hashes, begins)?;
+    check_groups(Geometry::new(settings), hashes, begins)?;
     if lent_bad(settings, seeds.len(), bitmap, scratch) {
         return Err(Refusal::Lengths);
     }

@@ -3,7 +3,6 @@
 
 ghost use Rattle.std.specs.Prelude.{◌≡◌, length, replicate};
 ghost use Rattle.rules.specs.Numbers.{bitmap_words};
-ghost use Rattle.geometry.specs.Shape.{Made};
 ghost use Rattle.checks.specs.Homes.{Begun};
 ghost use Rattle.level_check.specs.Check.{level_of, said_matched, level_answer, check_answer, check_scratch};
 
@@ -14,7 +13,7 @@ mod slots;
 use self::first::check_first;
 use self::seeds::seeds_bad;
 use self::slots::mark_buckets;
-use geometry::shape::{Geometry, geometry_of};
+use geometry::shape::Geometry;
 use integers::power::power_of_two;
 use rules::{Refusal, Settings, Stop};
 
@@ -27,7 +26,6 @@ fn judge(
     bitmap: &[u64],
     scratch: &mut [u64],
 ) -> Result<(), Stop>
-    requires made { Made g }
     requires begun { Begun begins.now (length seeds.now) (length hashes.now) }
     requires seeds_len { (length seeds.now ≡ g.settings.buckets) × (length bitmap.now ≡ bitmap_words g.settings.m) × (length scratch.old ≡ bitmap_words g.settings.m) }
     ensures answer { said_matched result ≡ level_answer (level_of g.settings hashes.now begins.now) seeds.now bitmap.now }
@@ -67,7 +65,7 @@ pub fn check_level(
 {
     check_first(settings, hashes, begins, seeds, bitmap.len(), scratch.len())?;
     judge(
-        geometry_of(settings),
+        Geometry::new(settings),
         hashes,
         begins,
         seeds,

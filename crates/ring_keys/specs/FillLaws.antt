@@ -13,7 +13,6 @@ use Rattle.rules.specs.Geometry.{layouts, slice_of, offset_of, layout_offset, st
 use Rattle.rules.specs.Ring.{ring_offset, column_of}
 use Rattle.rings.specs.Parts.{front_same, front_set}
 use Rattle.geometry.specs.declared.shape.Geometry.{Geometry}
-use Rattle.geometry.specs.Shape.{Made}
 use Rattle.geometry.proofs.Sizes.{sized}
 use Rattle.geometry.proofs.Places.{shift_lt}
 use Rattle.ring_keys.specs.RingKey.{ring_key, packed, LayoutsFilled, KeysFilled}
@@ -110,18 +109,18 @@ keys_all {s} {hashes} {start} {at} {i} a h = record {
 
 -- ---- what the code computes
 
-module _ (g : Geometry) (made : Made g) where
+module _ (g : Geometry) where
   pub layouts_are : g.layouts ≡ layouts g.settings
   unfolding layouts
-  layouts_are = (sized g made).layouts_is
+  layouts_are = (sized g).layouts_is
 
   pub bits_are : g.layout_bits ≡ 64 / layouts g.settings
-  bits_are = (sized g made).bits_is ∙ ap (λ (x : ℕ). 64 / x) layouts_are
+  bits_are = (sized g).bits_is ∙ ap (λ (x : ℕ). 64 / x) layouts_are
 
   -- a layout's shift is below 64
   pub shift_small : (r : ℕ) → r < layouts g.settings → r * g.layout_bits < 64
   shift_small r lt =
-      let z = sized g made in
+      let z = sized g in
       rw (bits_are) (shift_lt r (layouts g.settings) lt (rw (layouts_are) at z.layouts_low) (rw (layouts_are) at z.layouts_high))
 
   -- a key by the numbers of the geometry
@@ -129,7 +128,7 @@ module _ (g : Geometry) (made : Made g) where
       → base ≡ slice_of g.settings h + 95 - start → o ≡ (offset / 2 ^ (r * g.layout_bits) + r * 2 ^ g.scale) % g.l → v ≡ packed g.stride base o → v ≡ ring_key g.settings start r h
   unfolding ring_offset layout_offset
   key_code h start r offset base o v le eo eb ep ev =
-      let z = sized g made in
+      let z = sized g in
       let place : o ≡ ring_offset g.settings r h = rw (ep, eo, bits_are, z.scale_is, z.l_is) refl in
       rw (ev, eb, place, z.stride_is) (key_packed g.settings start r h le)
 

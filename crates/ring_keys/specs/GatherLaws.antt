@@ -68,10 +68,10 @@ set_below_lem to now filled k p v w lt le e =
 module _ {g : Geometry} {ring : Ring} {h start at size to r : ℕ} {old now : List ℕ} (ready : HashReady g ring h start at size to old)
     (a : HashGathered g.settings ring h start at size to r old now) (lt : r < g.layouts) where
   below : r < layouts g.settings
-  below = omega (arith, layouts_are g ready.made)
+  below = omega (arith, layouts_are g)
 
   pub hash_shift : (r * g.layout_bits < 64) × (r < 64)
-  hash_shift = (shift_small g ready.made r below, omega (arith, (sized g ready.made).layouts_high))
+  hash_shift = (shift_small g r below, omega (arith, (sized g).layouts_high))
 
   -- the key's word is below the free words
   pub hash_key : at + r * size < to
@@ -85,7 +85,7 @@ module _ {g : Geometry} {ring : Ring} {h start at size to r : ℕ} {old now : Li
   pub hash_code : {slice offset o v : ℕ} → slice ≡ slice_of g.settings h → offset ≡ offset_of g.settings h → o ≡ (offset / 2 ^ (r * g.layout_bits) + r * 2 ^ g.scale) % g.l
       → v ≡ packed g.stride (slice + 95 - start) o → v ≡ ring_key g.settings start r h
   hash_code {slice} {offset} {o} {v} es eo ep ev =
-      key_code g ready.made h start r offset (slice + 95 - start) o v ready.begins eo (ap (λ (x : ℕ). x + 95 - start) es) ep ev
+      key_code g h start r offset (slice + 95 - start) o v ready.begins eo (ap (λ (x : ℕ). x + 95 - start) es) ep ev
 
   -- what `add_row` asks for
   pub hash_row : {v : ℕ} → v ≡ ring_key g.settings start r h → RowReady ring v start (to + r) (set now (at + r * size) v)
@@ -202,7 +202,6 @@ module _ {g : Geometry} {ring : Ring} {hashes : List ℕ} {start at to : ℕ} {w
   ready_hash {i} {now} lt few len =
       let home = ready.bucket.homes i lt in
       record {
-        made = ready.made;
         shape = ready_shape;
         short = ready.short;
         begins = start_le g.settings ready.bucket.b start (get_or hashes i 0) home;
@@ -224,7 +223,7 @@ module _ {g : Geometry} {ring : Ring} {hashes : List ℕ} {start at to : ℕ} {w
       record { filled = x.filled; keys = keys; free = filled_all ready_shape x.filled at all done (used x.filled keys) (within x.filled keys x.same) (omega (arith, keys.len, ready.keys, ready.free)) (λ q lq. sym (filled_part room keys q lq)) }
     where
       words : g.layouts ≡ layouts g.settings * 1
-      words = omega (arith, layouts_are g ready.made)
+      words = omega (arith, layouts_are g)
 
       room : at + layouts g.settings * length hashes ≤ length work
       room = omega (arith, ready.keys, ready.free)
@@ -235,7 +234,7 @@ module _ {g : Geometry} {ring : Ring} {hashes : List ℕ} {start at to : ℕ} {w
       all : BlockedAll ring old (λ (q : ℕ). ring_keys g.settings start q hashes) start to 1 (layouts g.settings) (length hashes) now
       all =
           let e : i ≡ length hashes = omega (arith, a.le) in
-          rw e at (a.rows (begun_blocked old (λ (q : ℕ). ring_keys g.settings start q hashes) start (rw (layouts_are g ready.made) at begun)))
+          rw e at (a.rows (begun_blocked old (λ (q : ℕ). ring_keys g.settings start q hashes) start (rw (layouts_are g) at begun)))
 
       used : (filled : List ℕ) → KeysFilled g.settings hashes start at work filled → take ring.words old ≡ take ring.words filled
       used filled keys =

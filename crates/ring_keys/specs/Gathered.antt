@@ -5,7 +5,6 @@ use Rattle.rules.specs.declared.Settings.{Settings}
 use Rattle.rules.specs.Geometry.{layouts, slice_of}
 use Rattle.rules.specs.Good.{Good}
 use Rattle.geometry.specs.declared.shape.Geometry.{Geometry}
-use Rattle.geometry.specs.Shape.{Made}
 use Rattle.rings.specs.declared.Ring.{Ring}
 use Rattle.rings.specs.Ring.{Shape}
 use Rattle.rings.specs.Keys.{Key}
@@ -37,7 +36,6 @@ pub record Below (to : ℕ) (now : List ℕ) (P : List ℕ → Type 0) : Type 0 
 
 -- what is asked for one hash: its keys go to every size-th word from `at` on, which end before `to`, and its rows to the words from `to` on
 pub record HashReady (g : Geometry) (ring : Ring) (h start at size to : ℕ) (work : List ℕ) : Type 0 where
-  pub made : Made g
   pub shape : Shape ring
   pub short : ring.n ≤ 64
   pub begins : start ≤ slice_of g.settings h
@@ -59,7 +57,6 @@ pub record HashGathered (s : Settings) (ring : Ring) (h start at size to r : ℕ
 
 -- what is asked for a bucket: the ring, the keys and the free words lie one above the other
 pub record Ready (g : Geometry) (ring : Ring) (hashes : List ℕ) (start at to : ℕ) (work : List ℕ) : Type 0 where
-  pub made : Made g
   pub good : Good g.settings
   pub level : ring ≡ level_ring g.settings
   pub short : ring.n ≤ 64

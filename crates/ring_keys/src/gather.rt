@@ -5,7 +5,6 @@ ghost use Rattle.rules.specs.Geometry as G;
 ghost use Rattle.ring_keys.specs.Gathered.{RowReady, RowAdded, HashReady, HashGathered, Ready, Gathered};
 
 use crate::fill::{layout_place, pack};
-use geometry::place::{offset_of, slice_of};
 use geometry::shape::Geometry;
 use rings::Ring;
 use rings::free::{begin_free, finish_free};
@@ -41,8 +40,8 @@ fn gather_key<const WHOLE: bool>(
     requires n_value { IsTrue WHOLE → ring.n ≡ 64 }
     ensures { HashGathered g.settings ring h start at size to (G.layouts g.settings) work.old work.new }
 {
-    let base = slice_of(g, h) + 95 - start as u64;
-    let offset = offset_of(g, h);
+    let base = g.slice_of(h) + 95 - start as u64;
+    let offset = g.offset_of(h);
     for r in 0..g.layouts {
         let o = layout_place(g, offset, r * g.layout_bits, r);
         let d = pack(g.stride, base, o);

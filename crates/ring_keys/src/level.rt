@@ -1,6 +1,5 @@
 // The ring of a level.
 ghost use Rattle.std.specs.Prelude.{◌≡◌};
-ghost use Rattle.geometry.specs.Shape.{Made};
 ghost use Rattle.rings.specs.Level.{level_ring};
 
 use geometry::shape::Geometry;
@@ -8,7 +7,6 @@ use rings::Ring;
 
 // The numbers of the used ring, from a level's geometry.
 pub fn ring_of(g: Geometry) -> Ring
-    requires { Made g }
     ensures { result ≡ level_ring g.settings }
 {
     Ring {

@@ -13,8 +13,8 @@ returns-then-z-gt-MAX_BUCKET-clause-number c =
     let e10 : test10 i ≡ true = many_keys i (omega (arith, c.largest_size-z.ensures.0.same i refl)) in
     search rules
 
-pub strayed-requires-clause-begun : goal.strayed-requires-clause-begun
-strayed-requires-clause-begun c = begins_good _ _ _ (of_false (sym c.begins_bad.ensures ∙ c.if-begins_bad.false))
+pub strayed-requires : goal.strayed-requires
+strayed-requires c = begins_good _ _ _ (of_false (sym c.begins_bad.ensures ∙ c.if-begins_bad.false))
 
 pub returns-then-strayed-clause-number : goal.returns-then-strayed-clause-number
 unfolding first_of line9 line10 line11 largest

@@ -17,17 +17,17 @@ returns-in_err-z-clause-number c =
 
 pub table_bad-requires : goal.table_bad-requires
 unfolding entries
-table_bad-requires c = omega (arith, (sized c.args.g c.requires).entries_is)
+table_bad-requires c = omega (arith, (sized c.args.g).entries_is)
 
 pub returns-then-table_bad-clause-number : goal.returns-then-table_bad-clause-number
 returns-then-table_bad-clause-number c =
     let i = input_of c.args.g.settings c.args.weights c.args.hashes.now c.args.begins.now c.args.table.now in
-    twelfth c.args.how i (c.if-heavy.ensures) c.if-how-eq0.false (c.in_ok-z.ensures.number ∙ bare c.args.g.settings c.args.weights c.args.hashes.now c.args.begins.now c.args.table.now) true (c.if-table_bad.ensures ∙ sym (ap (table_bad c.args.table.now) (sym (sized c.args.g c.requires).entries_is)))
+    twelfth c.args.how i (c.if-heavy.ensures) c.if-how-eq0.false (c.in_ok-z.ensures.number ∙ bare c.args.g.settings c.args.weights c.args.hashes.now c.args.begins.now c.args.table.now) true (c.if-table_bad.ensures ∙ sym (ap (table_bad c.args.table.now) (sym (sized c.args.g).entries_is)))
 
 pub returns-clause-number : goal.returns-clause-number
 returns-clause-number c =
     let i = input_of c.args.g.settings c.args.weights c.args.hashes.now c.args.begins.now c.args.table.now in
-    twelfth c.args.how i (c.if-heavy.ensures) c.if-how-eq0.false (c.in_ok-z.ensures.number ∙ bare c.args.g.settings c.args.weights c.args.hashes.now c.args.begins.now c.args.table.now) false (c.if-table_bad.ensures ∙ sym (ap (table_bad c.args.table.now) (sym (sized c.args.g c.requires).entries_is)))
+    twelfth c.args.how i (c.if-heavy.ensures) c.if-how-eq0.false (c.in_ok-z.ensures.number ∙ bare c.args.g.settings c.args.weights c.args.hashes.now c.args.begins.now c.args.table.now) false (c.if-table_bad.ensures ∙ sym (ap (table_bad c.args.table.now) (sym (sized c.args.g).entries_is)))
 
 pub returns-clause-room : goal.returns-clause-room
 unfolding largest largest_of size_of work_needed

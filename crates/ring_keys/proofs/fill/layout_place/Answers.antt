@@ -12,7 +12,7 @@ use Rattle.ring_keys.proofs.fill.layout_place.Goals as goal
 use Rattle.ring_keys.proofs.fill.layout_place.Goals.{Start}
 
 size : (c : goal.Start) → Sized c.args.g
-size c = sized c.args.g c.requires.made
+size c = sized c.args.g
 
 -- what the layout's number adds
 turn_small : (c : goal.Start) → c.args.r * 2 ^ c.args.g.scale < 2 ^ 32

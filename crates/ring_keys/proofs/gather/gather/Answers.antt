@@ -6,7 +6,7 @@ use Rattle.ring_keys.specs.GatherLaws.{gathering_none, gathering_more, ready_sha
 use Rattle.ring_keys.proofs.gather.gather.Goals as goal
 
 pub begin_free-requires : goal.begin_free-requires
-begin_free-requires g c = omega (arith, layouts_are c.args.g c.requires.ready.made, c.requires.ready.free)
+begin_free-requires g c = omega (arith, layouts_are c.args.g, c.requires.ready.free)
 
 pub loop-i-init : goal.loop-i-init
 loop-i-init g c = gathering_none _ _ _ _ _ _ _
@@ -24,7 +24,7 @@ loop-i-preserved g c =
 
 pub finish_free-requires : goal.finish_free-requires
 finish_free-requires g c =
-    (omega (arith, layouts_are c.args.g c.requires.ready.made, c.requires.ready.free, c.loop-i.invariant.len, c.begin_free.ensures.within.len), omega (arith, (sized c.args.g c.requires.ready.made).layouts_high))
+    (omega (arith, layouts_are c.args.g, c.requires.ready.free, c.loop-i.invariant.len, c.begin_free.ensures.within.len), omega (arith, (sized c.args.g).layouts_high))
 
 pub returns : goal.returns
 returns g c = gathered c.requires.ready c.begin_free.ensures c.loop-i.invariant (omega arith) c.finish_free.ensures

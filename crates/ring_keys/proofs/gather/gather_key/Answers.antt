@@ -7,7 +7,7 @@ use Rattle.ring_keys.specs.GatherLaws.{hash_none, hash_shift, hash_key, hash_wor
 use Rattle.ring_keys.proofs.gather.gather_key.Goals as goal
 
 pub overflow_add-base : goal.overflow_add-base
-overflow_add-base g c = omega (arith, c.slice_of.ensures.1, (sized c.args.g c.requires.hash_ready.made).ns_high)
+overflow_add-base g c = omega (arith, c.slice_of.ensures.1, (sized c.args.g).ns_high)
 
 pub loop-r-init : goal.loop-r-init
 loop-r-init g c = hash_none _ _ _ _ _ _ _ _
@@ -15,12 +15,12 @@ loop-r-init g c = hash_none _ _ _ _ _ _ _ _
 pub overflow_mul-r : goal.overflow_mul-r
 overflow_mul-r g c = omega (arith, hash_shift c.requires.hash_ready c.loop-r.invariant c.loop-r-test.true)
 
-pub layout_place-o-requires-clause-shift_bound : goal.layout_place-o-requires-clause-shift_bound
-layout_place-o-requires-clause-shift_bound g c = hash_shift c.requires.hash_ready c.loop-r.invariant c.loop-r-test.true
+pub layout_place-o-requires : goal.layout_place-o-requires
+layout_place-o-requires g c = hash_shift c.requires.hash_ready c.loop-r.invariant c.loop-r-test.true
 
 pub pack-d-requires : goal.pack-d-requires
 pack-d-requires g c =
-    let z = sized c.args.g c.requires.hash_ready.made in
+    let z = sized c.args.g in
     (z.stride_high, omega (arith, c.slice_of.ensures.1, z.ns_high), c.layout_place-o.ensures.1)
 
 pub overflow_mul-work : goal.overflow_mul-work
@@ -54,5 +54,5 @@ loop-r-preserved g c =
 
 pub returns : goal.returns
 returns g c =
-    let e : c.loop-r.r ≡ G.layouts c.args.g.settings = omega (arith, layouts_are c.args.g c.requires.hash_ready.made) in
+    let e : c.loop-r.r ≡ G.layouts c.args.g.settings = omega (arith, layouts_are c.args.g) in
     rw e at c.loop-r.invariant
