@@ -7,13 +7,12 @@ mod answers;
 mod reading;
 mod rubbish;
 
-use answers::{done_held, in_numbers, stopped_held};
+use answers::{done_held, stopped_held};
 use checks::check_all;
 use comparing::{Tally, held};
-use integers::choice::smaller;
 use list_input::{bump_of, settings_of, weights_of};
 use reading::number;
-use rules::{How, Settings};
+use rules::{How, Refusal, Settings};
 use sweep::sweep;
 
 // What was compared, and how many cases were too large.
@@ -24,15 +23,13 @@ struct Replayed {
 }
 
 fn too_large(i: u64, refused: u64, so_far: Replayed) -> Replayed {
-    let tally = so_far.tally;
-    let large = so_far.large;
     reading::skip_answer(refused);
     io::write_all(1, b"case ");
     io::print_decimal(1, i);
     io::write_all(1, b": too large\n");
     Replayed {
-        tally: tally,
-        large: std::num::wrapping_add_u64(large, 1),
+        large: so_far.large.wrapping_add(1),
+        ..so_far
     }
 }
 
@@ -51,15 +48,16 @@ fn swept(
     places: &mut [u32],
     used: u64,
     refused: u64,
-    t0: Tally,
+    t: Tally,
 ) -> Tally {
     rubbish::in_seeds(seeds);
     rubbish::in_words(bitmap);
     rubbish::in_words(work);
-    let here = in_numbers(sweep(
+    let here = sweep(
         settings, weights, how, hashes, begins, table, seeds, bitmap, work,
-    ));
-    let t = held(t0, i, b"work words wrong", rubbish::worked(work, used), 0);
+    )
+    .outcome;
+    let t = held(t, i, b"work words wrong", rubbish::worked(work, used), 0);
     if refused != 0 {
         return stopped_held(i, refused, here, seeds, bitmap, t);
     }
@@ -83,7 +81,7 @@ fn fitted(
     so_far: Replayed,
 ) -> Replayed {
     let size = work.len();
-    let v = check_all(
+    let used = match check_all(
         settings,
         weights,
         how,
@@ -93,14 +91,12 @@ fn fitted(
         seeds.len(),
         bitmap.len(),
         size,
-    );
-    if v.number == 13 {
-        return too_large(i, refused, so_far);
-    }
-    let used = v.words;
-    let before = so_far.tally;
-    let large = so_far.large;
-    let lent = smaller(std::num::wrapping_add_u64(used, 8), size as u64) as usize;
+    ) {
+        Ok(room) => room.words,
+        Err(Refusal::Lengths) => return too_large(i, refused, so_far),
+        Err(_) => 0,
+    };
+    let lent = used.wrapping_add(8).min(size as u64) as usize;
     let tally = swept(
         i,
         settings,
@@ -115,20 +111,9 @@ fn fitted(
         places,
         used,
         refused,
-        before,
+        so_far.tally,
     );
-    Replayed {
-        tally: tally,
-        large: large,
-    }
-}
-
-// The words of a bitmap.
-fn words_of(slots: usize) -> usize {
-    if slots % 64 == 0 {
-        return slots / 64;
-    }
-    slots / 64 + 1
+    Replayed { tally, ..so_far }
 }
 
 fn case(
@@ -151,23 +136,16 @@ fn case(
     };
     let buckets = settings.buckets as usize;
     let slots = settings.m as usize;
-    let ends = std::num::wrapping_add_u64(settings.buckets, 1) as usize;
+    let words = slots.div_ceil(64);
+    let ends = settings.buckets.wrapping_add(1) as usize;
     let keys = reading::groups(settings.buckets, hashes, begins) as usize;
     let refused = number();
-    if keys > hashes.len() {
-        return too_large(i, refused, so_far);
-    }
-    if ends > begins.len() {
-        return too_large(i, refused, so_far);
-    }
-    if buckets > seeds.len() {
-        return too_large(i, refused, so_far);
-    }
-    if slots > places.len() {
-        return too_large(i, refused, so_far);
-    }
-    let words = words_of(slots);
-    if words > bitmap.len() {
+    let fits = keys <= hashes.len()
+        && ends <= begins.len()
+        && buckets <= seeds.len()
+        && slots <= places.len()
+        && words <= bitmap.len();
+    if !fits {
         return too_large(i, refused, so_far);
     }
     fitted(
@@ -236,6 +214,5 @@ fn main() {
     io::write_all(1, b" cases, ");
     io::print_decimal(1, all.large);
     io::write_all(1, b" too large\n");
-    let tally = all.tally;
-    comparing::close(tally);
+    comparing::close(all.tally);
 }
