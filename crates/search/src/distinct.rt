@@ -58,6 +58,7 @@ fn distinct_word(
     ensures { (result ≡ best_from (cost_at g table.now (part work.old a size)) (is_distinct g start (part work.old a size) (part work.old f count)) r before (64 * w) 64) × (work.new ≡ work.old) }
 {
     let mut best = before;
+    // A walk from one to one of the word counts no index.
     let mut left = work[f + w];
     while left != 0 {
         let j = 64 * w + u64::trailing_zeros(left) as usize;

@@ -56,7 +56,8 @@ fn search_distinct(
     seed_of(ring, layouts, best.r, best.j)
 }
 
-// The seed of bucket b, whose hashes are `keys`; its slots are marked in the ring and in the bitmap. 0 where no seed fits, and then nothing is marked.
+// The seed of bucket b, whose hashes are `keys`; its slots are marked in the ring and in the bitmap. Where no seed fits nothing is marked, and it is 0: by
+// the format the seed of a bucket without slots.
 pub fn search(
     g: Geometry,
     ring: Ring,

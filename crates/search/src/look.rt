@@ -34,9 +34,9 @@ pub fn found(best: Best) -> Option<Best>
     }
 }
 
-// The best free rotation, where one is free. Layout r has the `size` keys at work[at + r size..] and the `count` free words at work[to + r count..]; the words behind the last of
-// these are scratch, and `total` rotations are free. Where these are few all of them are priced, else the first free one of each segment between wrap
-// points.
+// The best free rotation, where one is free. Layout r has the `size` keys at work[at + r size..] and the `count` free words at work[to + r count..]; the
+// words behind the last of these are scratch, and `total` rotations are free. Where these are few all of them are priced, else the first free one of each
+// segment between wrap points.
 pub fn best_free(
     g: Ring,
     table: &[u32],

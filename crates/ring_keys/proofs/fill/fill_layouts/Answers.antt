@@ -2,15 +2,12 @@
 use Rattle.std.proofs.Common.{◌≡◌, ◌+◌, ◌-◌, ◌<◌, ℕ, ap, arith, div-le_self}
 use Rattle.rules.specs.Geometry as G
 use Rattle.geometry.proofs.Sizes.{sized}
-use Rattle.ring_keys.specs.FillLaws.{layouts_none, layouts_in, layouts_more, key_code, layouts_are, bits_are, shift_small}
+use Rattle.ring_keys.specs.FillLaws.{layouts_in, layouts_more, key_code, layouts_are, bits_are, shift_small}
 use Rattle.ring_keys.proofs.fill.fill_layouts.Goals as goal
 use Rattle.ring_keys.proofs.fill.fill_layouts.Goals.{After-layout_place-o}
 
 pub overflow_add-base : goal.overflow_add-base
 overflow_add-base c = omega (arith, c.slice_of.ensures.1, (sized c.args.g).ns_high)
-
-pub loop-r-init : goal.loop-r-init
-loop-r-init c = (omega arith, layouts_none _ _ _ _ _ _)
 
 pub layout_place-o-requires : goal.layout_place-o-requires
 layout_place-o-requires c =
