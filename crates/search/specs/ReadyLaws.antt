@@ -46,10 +46,10 @@ module _ {i : Input} {marked : List ℕ} {first : ℕ} {g : Geometry} {ring : Ri
 
   pub ready_layouts : g.layouts ≡ G.layouts i.settings
   unfolding G.layouts
-  ready_layouts = (sized g q.made).layouts_is ∙ ap (λ s. 2 ^ s.ll) q.settings
+  ready_layouts = (sized g).layouts_is ∙ ap (λ s. 2 ^ s.ll) q.settings
 
   pub layouts_few : g.layouts ≤ 64
-  layouts_few = (sized g q.made).layouts_high
+  layouts_few = (sized g).layouts_high
 
   pub bucket_in : b ≤ g.settings.buckets
   bucket_in = rw q.settings (omega (arith, q.held.inside))
@@ -186,7 +186,6 @@ module _ {i : Input} {marked : List ℕ} {first : ℕ} {g : Geometry} {ring : Ri
 
   pub code_preparing : Preparing g ring keys start ring.words (ring.words + z * (g.layouts + 2)) count work
   code_preparing = record {
-    made = q.made;
     good = rw q.settings q.held.sound.good;
     level = rw q.settings q.level;
     bucket = ready_bucket q es;
@@ -200,7 +199,7 @@ module _ {i : Input} {marked : List ℕ} {first : ℕ} {g : Geometry} {ring : Ri
   module _ {total : ℕ} {now : List ℕ} (k : Gathered g.settings ring keys start ring.words (ring.words + z * (g.layouts + 2)) count work total now) where
     -- in the code's terms
     code_free : FilledTo ring k.filled ring.words (length keys) start (ring.words + z * (g.layouts + 2)) count g.layouts total now
-    code_free = gathered_free q.made k
+    code_free = gathered_free g k
 
     code_room : ring.words + z * (g.layouts + 2) + g.layouts * count + count ≤ length k.filled
     code_room = rw k.keys.len (map_fits q count w)

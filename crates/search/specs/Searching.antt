@@ -11,7 +11,6 @@ use Rattle.rules.specs.Sweep.{takes}
 use Rattle.rules.specs.Numbers.{bitmap_words}
 use Rattle.rules.specs.Good.{Sound}
 use Rattle.geometry.specs.declared.shape.Geometry.{Geometry}
-use Rattle.geometry.specs.Shape.{Made}
 use Rattle.rings.specs.declared.Ring.{Ring}
 use Rattle.rings.specs.Columns.{Caches}
 use Rattle.rings.specs.Level.{level_ring}
@@ -41,7 +40,6 @@ pub record Held (i : Input) (marked : List ℕ) (first b : ℕ) (bitmap work : L
 -- the arguments of `search` are those of bucket b
 pub record Ready (i : Input) (marked : List ℕ) (first : ℕ) (g : Geometry) (ring : Ring) (table keys : List ℕ) (b z : ℕ) (bitmap work : List ℕ) : Type 0 where
   pub held : Held i marked first b bitmap work
-  pub made : Made g
   pub settings : g.settings ≡ i.settings
   pub level : ring ≡ level_ring i.settings
   pub prices : table ≡ i.table

@@ -3,7 +3,6 @@ use Rattle.std.specs.Prelude.{◌≡◌, ℕ}
 use Rattle.std.proofs.Math.Path.{refl}
 use Rattle.std.proofs.Common.{sym}
 use Rattle.geometry.specs.declared.shape.Geometry.{Geometry}
-use Rattle.geometry.specs.Shape.{Made}
 use Rattle.geometry.specs.Usual.{Usual}
 use Rattle.geometry.proofs.UsualLaws.{usual_len, stride_is, ring_is, rotations_is}
 use Rattle.rings.specs.declared.Ring.{Ring}
@@ -15,12 +14,12 @@ pub record UsualRing (ring : Ring) : Type 0 where
   pub n : ring.n ≡ 64
   pub rotations : ring.rotations ≡ 64
 
-pub usual_ring : {g : Geometry} → Made g → Usual g → {ring : Ring} → ring ≡ level_ring g.settings → UsualRing ring
+pub usual_ring : {g : Geometry} → Usual g → {ring : Ring} → ring ≡ level_ring g.settings → UsualRing ring
 unfolding level_ring
-usual_ring {g} m u e = rw e (record {
-  t = stride_is g.settings (usual_len m u) u.ll u.sb;
-  n = ring_is g.settings (usual_len m u) u.ll u.sb;
-  rotations = rotations_is g.settings (usual_len m u) u.ll u.sb;
+usual_ring {g} u e = rw e (record {
+  t = stride_is g.settings (usual_len u) u.ll u.sb;
+  n = ring_is g.settings (usual_len u) u.ll u.sb;
+  rotations = rotations_is g.settings (usual_len u) u.ll u.sb;
 })
 
 -- the ring with literals for what the compiler is to fold

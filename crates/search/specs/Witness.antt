@@ -13,8 +13,7 @@ use Rattle.rules.specs.Good.{Sound}
 use Rattle.rules.proofs.InputLaws.{passes}
 use Rattle.rules.proofs.CheckLaws.{good_usable}
 use Rattle.rules.proofs.Sheets.{table, small, lent_for, runs}
-use Rattle.geometry.specs.Shape.{geometry_of}
-use Rattle.geometry.proofs.Sizes.{made}
+use Rattle.geometry.proofs.Existing.{geometry_by}
 use Rattle.rings.specs.Level.{level_ring}
 use Rattle.rings.specs.LevelLaws.{shape_level}
 use Rattle.rings.specs.CacheLaws.{caches_start}
@@ -29,7 +28,7 @@ two_passes : first_of (sweep_lines (in_one true) two (lent_for two)) ≡ 0
 unfolding two small table runs
 two_passes = refl
 
-two_sound : Sound two
+pub two_sound : Sound two
 two_sound = (passes two (in_one true) (lent_for two) two_passes).sound
 
 zeros : (n k : ℕ) → ◌≡◌ {A = ℕ} (get_or (replicate n 0) k 0) 0
@@ -55,11 +54,7 @@ two_few : length (keys_of two 0) ≤ 2
 unfolding two small runs
 two_few = lit≤ tt
 
-geometry_settings : (s : Settings) → (geometry_of s).settings ≡ s
-unfolding geometry_of
-geometry_settings s = refl
-
-pub two_searching : Searching (geometry_of two.settings) (level_ring two.settings) two.table (keys_of two 0) 0 2 bitmap work
+pub two_searching : Searching (geometry_by two.settings (good_usable two.settings two_sound.good)) (level_ring two.settings) two.table (keys_of two 0) 0 2 bitmap work
 two_searching = record {
   i = two;
   marked = [];
@@ -72,8 +67,7 @@ two_searching = record {
       marks = marks_none two.settings.m;
       caches = caches_start (level_ring two.settings) (shape_level two.settings two_sound.good) work bitmap (λ k h. zeros (G.work_words two.settings 2) k) (marks_none two.settings.m).bits;
     };
-    made = made two.settings (good_usable two.settings two_sound.good);
-    settings = geometry_settings two.settings;
+    settings = refl;
     level = refl;
     prices = refl;
     hashes = refl;

@@ -22,7 +22,6 @@ use crate::distinct::best_distinct;
 use crate::look::{best_free, free_words};
 use crate::prepare::prepare;
 use crate::settle::{seed_of, settle};
-use geometry::place::first;
 use geometry::shape::Geometry;
 use rings::Ring;
 use sorting::has_equal;
@@ -73,7 +72,7 @@ pub fn search(
 {
     let size = keys.len();
     let layouts = g.layouts as usize;
-    let start = first(g, b as u64) as usize;
+    let start = g.first(b as u64) as usize;
     let count = free_words(ring);
     let at = ring.words;
     let mid = at + z * layouts;

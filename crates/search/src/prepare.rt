@@ -4,7 +4,6 @@ ghost use Rattle.search.specs.Preparing.{Preparing};
 
 use crate::usual::literal_ring;
 use geometry::shape::Geometry;
-use geometry::usual::{literal, usual};
 use ring_keys::fill::fill_keys;
 use ring_keys::gather::gather;
 use rings::Ring;
@@ -25,8 +24,8 @@ pub fn prepare(
     requires { Preparing g ring keys.now start at to count work.old }
     ensures { Gathered g.settings ring keys.now start at to count work.old result work.new }
 {
-    if usual(g) {
-        return gather::<true>(literal(g), literal_ring(ring), keys, start, work, at, to);
+    if g.is_usual() {
+        return gather::<true>(g.literal(), literal_ring(ring), keys, start, work, at, to);
     }
     if ring.n <= 64 {
         return gather::<false>(g, ring, keys, start, work, at, to);

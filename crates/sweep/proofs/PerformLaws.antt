@@ -19,8 +19,6 @@ use Rattle.rules.specs.Order.{Input, input_of, by_low_bits}
 use Rattle.rules.specs.Answers.{Answer, Refusal, number_of, said_sweep, said_outcome, said_stop, named_by, counts_of, count_values, stops_at, sweep_number, work_needed}
 use Rattle.rules.proofs.InputLaws.{passes}
 use Rattle.rules.proofs.CheckLaws.{good_usable}
-use Rattle.geometry.specs.Shape.{geometry_of}
-use Rattle.geometry.proofs.Sizes.{made}
 use Rattle.checks.specs.declared.Room.{Room}
 use Rattle.checks.specs.Verdicts.{RoomFor}
 use Rattle.rules.proofs.RefusalLaws.{number_positive}
@@ -57,7 +55,6 @@ module _ {i : Input} {how : How} {g : Geometry} {z words : ℕ} {seeds bitmap wo
   unfolding work_needed
   blank {seeds1} {bitmap1} es eb = record {
     sound = passed.sound;
-    made = p.made;
     settings = p.settings;
     largest_is = p.largest_is;
     no_seeds = es ∙ ap (λ (k : ℕ). replicate k 0) passed.seeds;
@@ -121,7 +118,6 @@ module _ (s : Settings) (weights : List ℤ) (how : How) (hashes begins table se
     unfolding geometry_of
     performing {room = room} j e = subst (λ (g : Geometry). Performing (input g.settings) how g room.z room.words seeds bitmap work) (sym e) (record {
       fine = sym none;
-      made = made s usable;
       settings = refl;
       largest_is = j.z.0;
       words_are = j.words.0;

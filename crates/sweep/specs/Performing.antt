@@ -6,11 +6,9 @@ use Rattle.rules.specs.Numbers.{lent_of, largest}
 use Rattle.rules.specs.Order.{Input, by_low_bits}
 use Rattle.rules.specs.Answers.{said_sweep, sweep_number, sweep_answer, sweep_seeds, sweep_bitmap, sweep_work, work_needed}
 use Rattle.geometry.specs.declared.shape.Geometry.{Geometry}
-use Rattle.geometry.specs.Shape.{Made}
 
 pub record Performing (i : Input) (how : How) (g : Geometry) (z words : ℕ) (seeds bitmap work : List ℕ) : Type 0 where
   pub fine : sweep_number how i (lent_of seeds bitmap work) ≡ 0
-  pub made : Made g
   pub settings : g.settings ≡ i.settings
   pub largest_is : z ≡ largest i
   pub words_are : words ≡ work_needed i

@@ -16,7 +16,7 @@ pub mod turning;
 use self::counting::counted;
 use self::turning::run;
 use checks::check_all;
-use geometry::shape::{Geometry, geometry_of};
+use geometry::shape::Geometry;
 use rules::{Counts, How, Refusal, Settings, Stop, SweepRecord};
 
 // The sweep of an input whose checks have passed. The first `words` words of work are used, and zero in the end.
@@ -90,7 +90,7 @@ fn checked_sweep(
         work.len(),
     )?;
     perform(
-        geometry_of(settings),
+        Geometry::new(settings),
         weights,
         how,
         hashes,

@@ -7,12 +7,7 @@ use Rattle.search.specs.ReadyLaws.{ready_shape, bucket_in, layouts_few, layouts_
 use Rattle.search.proofs.search.Goals as goal
 
 pub first-start-requires : goal.first-start-requires
-first-start-requires c =
-    let q = c.requires.ready in
-    record {
-      made = q.made;
-      b_le_buckets = bucket_in q;
-    }
+first-start-requires c = bucket_in c.requires.ready
 
 pub free_words-count-requires : goal.free_words-count-requires
 free_words-count-requires c = ready_shape c.requires.ready

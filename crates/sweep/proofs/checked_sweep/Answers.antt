@@ -16,9 +16,9 @@ geometry_of-requires c =
 pub perform-requires : goal.perform-requires
 perform-requires c =
     let a = c.args in
-    performing a.settings a.weights a.how a.hashes.now a.begins.now a.table.now a.seeds.now a.bitmap.now a.work.now c.in_ok-room.ensures.number c.in_ok-room.ensures.room c.geometry_of.ensures
+    performing a.settings a.weights a.how a.hashes.now a.begins.now a.table.now a.seeds.now a.bitmap.now a.work.now c.in_ok-room.ensures.number c.in_ok-room.ensures.room c.new.ensures
 
 pub returns : goal.returns
 returns c =
     let a = c.args in
-    left_by a.settings a.weights a.how a.hashes.now a.begins.now a.table.now a.seeds.now a.bitmap.now a.work.now c.geometry_of.ensures c.perform.ensures
+    left_by a.settings a.weights a.how a.hashes.now a.begins.now a.table.now a.seeds.now a.bitmap.now a.work.now c.new.ensures c.perform.ensures

@@ -8,24 +8,19 @@ use Rattle.search.specs.Preparing.{ring_shape, layouts_few, keys_room, keys_know
 use Rattle.search.proofs.prepare.prepare.Goals as goal
 
 pub literal-requires : goal.literal-requires
-literal-requires c =
-    let p = c.requires in
-    record {
-      made = p.made;
-      usual = usual_told c.args.g (of_true (sym c.usual.ensures ∙ c.if-usual.true));
-    }
+literal-requires c = usual_told c.args.g (of_true (sym c.is_usual.ensures.shape ∙ c.if-is_usual.true))
 
 pub literal_ring-requires : goal.literal_ring-requires
-literal_ring-requires c = let p = c.requires in usual_ring p.made (usual_told c.args.g (of_true (sym c.usual.ensures ∙ c.if-usual.true))) p.level
+literal_ring-requires c = let p = c.requires in usual_ring (usual_told c.args.g (of_true (sym c.is_usual.ensures.shape ∙ c.if-is_usual.true))) p.level
 
 pub gather-requires : goal.gather-requires
 gather-requires c =
-    let whole = literal_ready c.requires (usual_told c.args.g (of_true (sym c.usual.ensures ∙ c.if-usual.true))) c.literal.ensures c.literal_ring.ensures in
+    let whole = literal_ready c.requires (usual_told c.args.g (of_true (sym c.is_usual.ensures.shape ∙ c.if-is_usual.true))) c.literal.result c.literal.ensures c.literal_ring.ensures in
     record { ready = whole.0; n_value = λ _. whole.1 }
 
-pub returns-then-usual : goal.returns-then-usual
-returns-then-usual c =
-    literal_gathered c.requires (usual_told c.args.g (of_true (sym c.usual.ensures ∙ c.if-usual.true))) c.literal.ensures c.literal_ring.ensures c.gather.ensures
+pub returns-then-is_usual : goal.returns-then-is_usual
+returns-then-is_usual c =
+    literal_gathered c.requires (usual_told c.args.g (of_true (sym c.is_usual.ensures.shape ∙ c.if-is_usual.true))) c.literal.result c.literal.ensures c.literal_ring.ensures c.gather.ensures
 
 pub gather-requires-then-ring-le64-clause-ready : goal.gather-requires-then-ring-le64-clause-ready
 gather-requires-then-ring-le64-clause-ready c = one_ready c.requires c.if-ring-le64.true
@@ -37,7 +32,6 @@ pub fill_keys-requires : goal.fill_keys-requires
 fill_keys-requires c =
     let p = c.requires in
     record {
-      made = p.made;
       bucket = p.bucket;
       hashes_in_bounds = keys_room p;
     }

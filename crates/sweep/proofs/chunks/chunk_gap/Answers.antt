@@ -8,7 +8,7 @@ pub overflow_mul-result : goal.overflow_mul-result
 overflow_mul-result c = omega (arith, product_small c.args.g c.requires)
 
 pub nonzero_div-result : goal.nonzero_div-result
-nonzero_div-result c = (sized c.args.g c.requires).ns_low
+nonzero_div-result c = (sized c.args.g).ns_low
 
 pub overflow_add-result : goal.overflow_add-result
 overflow_add-result c = omega (arith, gap_small c.args.g c.requires)

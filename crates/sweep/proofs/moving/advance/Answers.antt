@@ -11,13 +11,13 @@ pub loop-at-init : goal.loop-at-init
 loop-at-init c = (refl, omega (arith, c.first-to.ensures.0, c.requires.words_in_bounds.2), c.requires.caches)
 
 pub overflow_add-at : goal.overflow_add-at
-overflow_add-at c = omega (arith, c.loop-at.invariant.1, c.first-to.ensures.1, (sized c.args.g c.requires.made).ns_high, c.column_slots-column.ensures.1)
+overflow_add-at c = omega (arith, c.loop-at.invariant.1, c.first-to.ensures.1, (sized c.args.g).ns_high, c.column_slots-column.ensures.1)
 
 pub retire-at-requires : goal.retire-at-requires
 retire-at-requires c =
     record {
       shape = c.requires.shape;
-      words_in_bounds = (omega (arith, c.loop-at.invariant.0, c.requires.words_in_bounds.0), omega (arith, c.loop-at.invariant.1, c.first-to.ensures.1, (sized c.args.g c.requires.made).ns_high));
+      words_in_bounds = (omega (arith, c.loop-at.invariant.0, c.requires.words_in_bounds.0), omega (arith, c.loop-at.invariant.1, c.first-to.ensures.1, (sized c.args.g).ns_high));
       caches = c.loop-at.invariant.2;
     }
 

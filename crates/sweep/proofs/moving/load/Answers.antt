@@ -11,14 +11,14 @@ pub load_ring-requires : goal.load_ring-requires
 load_ring-requires c =
     record {
       shape = c.requires.shape;
-      words_in_bounds = (c.requires.words_in_bounds.0, omega (arith, col_le c.args.ring.t c.first-at.result, c.first-at.ensures.1, (sized c.args.g c.requires.made).ns_high));
+      words_in_bounds = (c.requires.words_in_bounds.0, omega (arith, col_le c.args.ring.t c.first-at.result, c.first-at.ensures.1, (sized c.args.g).ns_high));
     }
 
 pub overflow_mul-result : goal.overflow_mul-result
 overflow_mul-result c =
     let at = c.first-at.result in
     let k = at / 2 ^ c.args.ring.t / 64 in
-    omega (arith, ap (λ (x : ℕ). k * x) c.column_slots.ensures.0, col_is c.args.ring.t k, col_le c.args.ring.t at, c.first-at.ensures.1, (sized c.args.g c.requires.made).ns_high)
+    omega (arith, ap (λ (x : ℕ). k * x) c.column_slots.ensures.0, col_is c.args.ring.t k, col_le c.args.ring.t at, c.first-at.ensures.1, (sized c.args.g).ns_high)
 
 pub returns : goal.returns
 returns c =

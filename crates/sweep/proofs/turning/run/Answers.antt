@@ -14,19 +14,18 @@ use Rattle.sweep.proofs.RunLaws.{next_range, ran_all, ran_at, span_is, span_coun
 use Rattle.sweep.proofs.turning.run.Goals as goal
 
 pub ring_of-ring-requires : goal.ring_of-ring-requires
-ring_of-ring-requires c = c.requires.made
+ring_of-ring-requires c =
 
 pub weight_table-by_size-requires : goal.weight_table-by_size-requires
 unfolding Moderate
 weight_table-by_size-requires c = record { within = c.requires.sound.moderate }
 
 pub chunk_gap-gap-requires : goal.chunk_gap-gap-requires
-chunk_gap-gap-requires c = c.requires.made
+chunk_gap-gap-requires c =
 
 pub chunk_count-chunks-requires : goal.chunk_count-chunks-requires
 chunk_count-chunks-requires c =
     record {
-      made = c.requires.made;
       gap_value = (c.chunk_gap-gap.ensures.0, c.chunk_gap-gap.ensures.2);
     }
 
@@ -43,7 +42,6 @@ pub range_at-span-requires : goal.range_at-span-requires
 range_at-span-requires c =
     let i = input_of c.args.g.settings c.args.weights c.args.hashes.now c.args.begins.now c.args.table.now in
     record {
-      made = c.requires.made;
       gap_value = (c.chunk_gap-gap.ensures.0, c.chunk_count-chunks.ensures.1, c.chunk_count-chunks.ensures.2, span_room i c.args.g refl c.chunk_count-chunks.result c.args.how.chunks c.chunk_count-chunks.ensures.0 c.chunk_gap-gap.result c.chunk_gap-gap.ensures.0, c.loop-k-test.true);
     }
 

@@ -17,7 +17,6 @@ load-from-requires c =
     let n = c.requires.ranging.next in
     let l = n.resting.level in
     record {
-      made = l.made;
       shape = ring_shape l c.requires.ring_value;
       words_in_bounds = (ring_room l c.requires.ring_value c.args.work.now n.resting.room, omega (arith, n.rises, n.range, ap (λ (t : Settings). t.buckets) l.settings));
     }

@@ -49,7 +49,6 @@ advance-first_slot-requires c =
     let e = c.requires.ring_value in
     let behind = subst (λ (o : ℕ). c.loop-turn.first_slot ≤ G.first b.i.settings o) (sym c.oldest-oldest.ensures) (behind_oldest f t.some sw.behind) in
     record {
-      made = h.level.made;
       shape = ring_shape h.level e;
       words_in_bounds = (ring_room h.level e c.loop-turn.work sw.buffers.room, omega (arith, c.take-b.ensures.oldest_le_bucket, c.oldest-oldest.ensures, t.high, h.range, ap (λ (s : Settings). s.buckets) h.level.settings), first_in h.level e _ _ behind);
       caches = caches_in h.level e sw.buffers.caches;
