@@ -5,7 +5,7 @@ use Rattle.rules.specs.Geometry as G
 use Rattle.rules.specs.Good.{Usable}
 use Rattle.geometry.specs.declared.shape.Geometry.{Geometry}
 
-pub geometry_by : (s : Settings) → Usable s → Geometry
+abbrev pub geometry_by : (s : Settings) → Usable s → Geometry
 geometry_by s d = record {
   settings = s;
   l = G.slice_len s;

@@ -91,16 +91,19 @@ module _ {g : Geometry} {ring : Ring} {hashes : List ℕ} {start at to count : �
     pub literal_ready : Ready g' ring' hashes start at to work × (ring'.n ≡ 64)
     literal_ready =
         let r = one_ready (omega (arith, level_64 u)) in
-        rw er (record {
-          good = rw eg r.good;
-          level = rw eg r.level;
-          short = r.short;
-          bucket = rw eg r.bucket;
-          above = r.above;
-          keys = rw eg r.keys;
-          free = rw eg r.free;
-          low = r.low;
-        }, level_64 u)
+        rw er (
+          record {
+            good = rw eg r.good;
+            level = rw eg r.level;
+            short = r.short;
+            bucket = rw eg r.bucket;
+            above = r.above;
+            keys = rw eg r.keys;
+            free = rw eg r.free;
+            low = r.low;
+          },
+          level_64 u,
+        )
 
     pub literal_gathered : {total : ℕ} {now : List ℕ} → Gathered g'.settings ring' hashes start at to 1 work total now → Gathered g.settings ring hashes start at to count work total now
     literal_gathered k = one_gathered (omega (arith, level_64 u)) (rw (eg, er) at k)

@@ -3,7 +3,6 @@
 use Rattle.std.specs.Prelude.{◌≡◌, refl, List, [], ◌∷◌, true, ℕ, zero, suc, ◌+◌, ◌^◌, ◌≤◌, ◌<◌, length, replicate, get_or}
 use Rattle.std.proofs.Common.{arith, lit<, lit≤}
 use Rattle.std.proofs.lemmas.List.{length-replicate}
-use Rattle.rules.specs.declared.Settings.{Settings}
 use Rattle.rules.specs.Geometry as G
 use Rattle.rules.specs.Order.{Input, keys_of}
 use Rattle.rules.specs.Chunks.{in_one}

@@ -114,16 +114,9 @@ module _ (s : Settings) (weights : List ℤ) (how : How) (hashes begins table se
     unfolding sweep_number
     usable = good_usable s (passes (input s) how (lent_of seeds bitmap work) (sym none)).sound.good
 
-    pub performing : {g : Geometry} {room : Room} → RoomFor (input s) room → g ≡ geometry_of s → Performing (input g.settings) how g room.z room.words seeds bitmap work
-    unfolding geometry_of
-    performing {room = room} j e = subst (λ (g : Geometry). Performing (input g.settings) how g room.z room.words seeds bitmap work) (sym e) (record {
-      fine = sym none;
-      settings = refl;
-      largest_is = j.z.0;
-      words_are = j.words.0;
-    })
+    pub performing : (g : Geometry) {room : Room} → RoomFor (input s) room → g.settings ≡ s → Performing (input g.settings) how g room.z room.words seeds bitmap work
+    performing g j e = record { fine = rw e (sym none); settings = refl; largest_is = rw e j.z.0; words_are = rw e j.words.0 }
 
-  pub left_by : {g : Geometry} {r : SweepRecord} {seeds' bitmap' work' : List ℕ} → g ≡ geometry_of s → Left (input g.settings) how seeds bitmap work r seeds' bitmap' work'
+  pub left_by : {t : Settings} {r : SweepRecord} {seeds' bitmap' work' : List ℕ} → t ≡ s → Left (input t) how seeds bitmap work r seeds' bitmap' work'
       → Left (input s) how seeds bitmap work r seeds' bitmap' work'
-  unfolding geometry_of
-  left_by {g} {r} {seeds'} {bitmap'} {work'} e l = subst (λ (g : Geometry). Left (input g.settings) how seeds bitmap work r seeds' bitmap' work') e l
+  left_by {r = r} {seeds'} {bitmap'} {work'} e l = subst (λ (t : Settings). Left (input t) how seeds bitmap work r seeds' bitmap' work') e l

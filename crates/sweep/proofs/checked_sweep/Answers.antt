@@ -8,15 +8,15 @@ returns-in_err-room c =
     let p = err_from_is_err_and c.from_residual.result c.from_residual.ensures.1 in
     rw (p.1, p.2) (left_refused c.in_err-room.ensures.number)
 
-pub geometry_of-requires : goal.geometry_of-requires
-geometry_of-requires c =
+pub new-requires : goal.new-requires
+new-requires c =
     let a = c.args in
     usable a.settings a.weights a.how a.hashes.now a.begins.now a.table.now a.seeds.now a.bitmap.now a.work.now c.in_ok-room.ensures.number
 
 pub perform-requires : goal.perform-requires
 perform-requires c =
     let a = c.args in
-    performing a.settings a.weights a.how a.hashes.now a.begins.now a.table.now a.seeds.now a.bitmap.now a.work.now c.in_ok-room.ensures.number c.in_ok-room.ensures.room c.new.ensures
+    performing a.settings a.weights a.how a.hashes.now a.begins.now a.table.now a.seeds.now a.bitmap.now a.work.now c.in_ok-room.ensures.number c.new.result c.in_ok-room.ensures.room c.new.ensures
 
 pub returns : goal.returns
 returns c =

@@ -13,21 +13,12 @@ use Rattle.sweep.proofs.StartLaws.{rests}
 use Rattle.sweep.proofs.RunLaws.{next_range, ran_all, ran_at, span_is, span_count, span_room, rests_first, rests_more}
 use Rattle.sweep.proofs.turning.run.Goals as goal
 
-pub ring_of-ring-requires : goal.ring_of-ring-requires
-ring_of-ring-requires c =
-
 pub weight_table-by_size-requires : goal.weight_table-by_size-requires
 unfolding Moderate
 weight_table-by_size-requires c = record { within = c.requires.sound.moderate }
 
-pub chunk_gap-gap-requires : goal.chunk_gap-gap-requires
-chunk_gap-gap-requires c =
-
 pub chunk_count-chunks-requires : goal.chunk_count-chunks-requires
-chunk_count-chunks-requires c =
-    record {
-      gap_value = (c.chunk_gap-gap.ensures.0, c.chunk_gap-gap.ensures.2);
-    }
+chunk_count-chunks-requires c = (c.chunk_gap-gap.ensures.0, c.chunk_gap-gap.ensures.2)
 
 pub overflow_mul-ranges : goal.overflow_mul-ranges
 overflow_mul-ranges c = omega (arith, c.chunk_count-chunks.ensures.2)
@@ -41,9 +32,7 @@ loop-k-init c = (λ i k e r. rests_first k r, refl, refl, refl)
 pub range_at-span-requires : goal.range_at-span-requires
 range_at-span-requires c =
     let i = input_of c.args.g.settings c.args.weights c.args.hashes.now c.args.begins.now c.args.table.now in
-    record {
-      gap_value = (c.chunk_gap-gap.ensures.0, c.chunk_count-chunks.ensures.1, c.chunk_count-chunks.ensures.2, span_room i c.args.g refl c.chunk_count-chunks.result c.args.how.chunks c.chunk_count-chunks.ensures.0 c.chunk_gap-gap.result c.chunk_gap-gap.ensures.0, c.loop-k-test.true);
-    }
+    (c.chunk_gap-gap.ensures.0, c.chunk_count-chunks.ensures.1, c.chunk_count-chunks.ensures.2, span_room i c.args.g refl c.chunk_count-chunks.result c.args.how.chunks c.chunk_count-chunks.ensures.0 c.chunk_gap-gap.result c.chunk_gap-gap.ensures.0, c.loop-k-test.true)
 
 pub run_range-requires : goal.run_range-requires
 run_range-requires c =
