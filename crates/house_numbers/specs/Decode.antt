@@ -1,10 +1,16 @@
 -- The number at a place among bytes. Assumes nothing.
-use Rattle.std.specs.Prelude.{ℕ, ◌+◌, ◌*◌, ◌%◌, ◌^◌, cond, ◌||◌, List, [], ◌∷◌, ltb, leb, drop}
+use Rattle.std.specs.Prelude.{Option, Some, None, ℕ, ◌+◌, ◌*◌, ◌%◌, ◌^◌, cond, ◌||◌, List, [], ◌∷◌, ltb, leb, drop}
 use Rattle.house_numbers.specs.declared.Part.{Part}
 use Rattle.house_numbers.specs.declared.Grown.{Grown}
 use Rattle.house_numbers.specs.declared.Grown.TheVariants as Grow
 use Rattle.house_numbers.specs.declared.Decoded.{Decoded}
-use Rattle.house_numbers.specs.declared.Decoded.TheVariants as Read
+
+-- a number that was read, and the place after it
+abbrev pub number_of : (value next : ℕ) → Decoded
+number_of v next = record { value = v; next = next }
+
+abbrev pub found : (value next : ℕ) → Option Decoded
+found v next = Some (number_of v next)
 
 -- no group yet
 abbrev pub no_groups : Part
@@ -19,20 +25,20 @@ unfoldable pub grown_to : (groups value byte : ℕ) → Grown
 grown_to groups value byte = cond (ltb byte 128) (Grow.Whole value) (Grow.More (record { value = value; groups = groups + 1 }))
 
 -- one more byte. Refused: over ten groups, or over 64 bits
-unfoldable pub grown_by : Part → (byte : ℕ) → Grown
-grown_by p byte = cond (ltb 9 p.groups || leb (2 ^ 64) (grown_value p byte)) Grow.Refused (grown_to p.groups (grown_value p byte) byte)
+unfoldable pub grown_by : Part → (byte : ℕ) → Option Grown
+grown_by p byte = cond (ltb 9 p.groups || leb (2 ^ 64) (grown_value p byte)) None (Some (grown_to p.groups (grown_value p byte) byte))
 
 -- what a grown part is, given the place after its last byte and what the bytes from there on make of a part that wants more
-unfoldable pub settled : Grown → (next : ℕ) → (Part → Decoded) → Decoded
-settled (Grow.More p) next more = more p
-settled (Grow.Whole v) next more = Read.Number v next
-settled Grow.Refused next more = Read.Refused
+unfoldable pub settled : Option Grown → (next : ℕ) → (Part → Option Decoded) → Option Decoded
+settled (Some (Grow.More p)) next more = more p
+settled (Some (Grow.Whole v)) next more = found v next
+settled None next more = None
 
 -- what the bytes from a place on make of a part; refused where they end
-unfoldable pub decoded_from : (at : ℕ) → List ℕ → Part → Decoded
-decoded_from at [] p = Read.Refused
+unfoldable pub decoded_from : (at : ℕ) → List ℕ → Part → Option Decoded
+decoded_from at [] p = None
 decoded_from at (b ∷ bs) p = settled (grown_by p b) (at + 1) (decoded_from (at + 1) bs)
 
 -- the number at a place
-unfoldable pub decoded_at : (bytes : List ℕ) → (at : ℕ) → Decoded
+unfoldable pub decoded_at : (bytes : List ℕ) → (at : ℕ) → Option Decoded
 decoded_at bytes at = decoded_from at (drop at bytes) no_groups

@@ -1,13 +1,28 @@
 -- One more byte, case by case, and the number at a place, byte by byte. Assumes nothing.
-use Rattle.std.specs.Prelude.{ℕ, zero, suc, ◌+◌, ◌-◌, ◌*◌, ◌/◌, ◌%◌, ◌^◌, ◌≤◌, ◌<◌, ◌≡◌, List, length, drop, get_or}
+use Rattle.std.specs.Prelude.{Option, Some, None, ℕ, zero, suc, ◌+◌, ◌-◌, ◌*◌, ◌/◌, ◌%◌, ◌^◌, ◌≤◌, ◌<◌, ◌≡◌, List, length, drop, get_or}
 use Rattle.std.proofs.Common.{arith, add-one, pow-suc, le-div_iff_mul-le, lt_of_not-le, mod-eq_of_lt, sym, ◌∙◌, drop_of_length-le, pow-add, pow_pos, drop-cons}
 use Rattle.std.proofs.Math.Path.{refl, ap}
 use borrow.Author.Tests.{lt-ltb, le-ltb, le-leb, lt-leb}
 use Rattle.house_numbers.specs.declared.Part.{Part}
+use Rattle.house_numbers.specs.declared.Decoded.{Decoded}
 use Rattle.house_numbers.specs.declared.Grown.{Grown}
 use Rattle.house_numbers.specs.declared.Grown.TheVariants as Grow
-use Rattle.house_numbers.specs.declared.Decoded.TheVariants as Read
-use Rattle.house_numbers.specs.Decode.{grown_value, grown_to, grown_by, settled, decoded_from}
+use Rattle.house_numbers.specs.Decode.{number_of, found, no_groups, grown_value, grown_to, grown_by, settled, decoded_from}
+
+-- the number and the place of what was found
+module _ (v w m n : ℕ) (e : found v m ≡ found w n) where
+  same : number_of v m ≡ number_of w n
+  same = cc
+
+  pub found_value : v ≡ w
+  found_value = ap (λ (d : Decoded). d.value) same
+
+  pub found_next : m ≡ n
+  found_next = ap (λ (d : Decoded). d.next) same
+
+-- a part of no groups is `no_groups`
+pub none_is : (p : Part) → p.value ≡ 0 → p.groups ≡ 0 → p ≡ no_groups
+none_is p v g = ap (λ (x : ℕ). record { value = x; groups = p.groups }) v ∙ ap (λ (x : ℕ). record { value = 0; groups = x }) g
 
 -- 128 is seven bits
 pub pow_groups : (g : ℕ) → 128 ^ g ≡ 2 ^ (7 * g)
@@ -35,25 +50,25 @@ module _ (v g s : ℕ) (fits : v < 2 ^ 64) where
   shifted h = mod-eq_of_lt (omega (arith, room h))
 
 module _ (p : Part) (b : ℕ) where
-  pub grown_long : 9 < p.groups → Grow.Refused ≡ grown_by p b
+  pub grown_long : 9 < p.groups → None ≡ grown_by p b
   unfolding grown_by
   grown_long h = rw (lt-ltb 9 p.groups h) refl
 
-  pub grown_wide : p.groups ≤ 9 → 2 ^ 64 ≤ grown_value p b → Grow.Refused ≡ grown_by p b
+  pub grown_wide : p.groups ≤ 9 → 2 ^ 64 ≤ grown_value p b → None ≡ grown_by p b
   unfolding grown_by
   grown_wide g h = rw (le-ltb 9 p.groups g, le-leb (2 ^ 64) (grown_value p b) h) refl
 
-  pub grown_whole : p.groups ≤ 9 → grown_value p b < 2 ^ 64 → b < 128 → Grow.Whole (grown_value p b) ≡ grown_by p b
+  pub grown_whole : p.groups ≤ 9 → grown_value p b < 2 ^ 64 → b < 128 → Some (Grow.Whole (grown_value p b)) ≡ grown_by p b
   unfolding grown_by grown_to
   grown_whole g h l = rw (le-ltb 9 p.groups g, lt-leb (2 ^ 64) (grown_value p b) h, lt-ltb b 128 l) refl
 
-  pub grown_more : p.groups ≤ 9 → grown_value p b < 2 ^ 64 → 128 ≤ b → Grow.More (record { value = grown_value p b; groups = p.groups + 1 }) ≡ grown_by p b
+  pub grown_more : p.groups ≤ 9 → grown_value p b < 2 ^ 64 → 128 ≤ b → Some (Grow.More (record { value = grown_value p b; groups = p.groups + 1 })) ≡ grown_by p b
   unfolding grown_by grown_to
   grown_more g h l = rw (le-ltb 9 p.groups g, lt-leb (2 ^ 64) (grown_value p b) h, le-ltb b 128 l) refl
 
 -- the number at a place, from the byte there
 module _ (bytes : List ℕ) (at : ℕ) (p : Part) where
-  pub from_end : length bytes ≤ at → decoded_from at (drop at bytes) p ≡ Read.Refused
+  pub from_end : length bytes ≤ at → decoded_from at (drop at bytes) p ≡ None
   unfolding decoded_from
   from_end h = rw (drop_of_length-le bytes h) refl
 
@@ -61,19 +76,19 @@ module _ (bytes : List ℕ) (at : ℕ) (p : Part) where
   unfolding decoded_from
   from_byte h = rw (drop-cons bytes at 0 h) (rw (add-one) refl)
 
-  module _ (inside : at < length bytes) (g : Grown) (e : g ≡ grown_by p (get_or bytes at 0)) where
+  module _ (inside : at < length bytes) (g : Option Grown) (e : g ≡ grown_by p (get_or bytes at 0)) where
     from_grown : settled g (at + 1) (decoded_from (at + 1) (drop (at + 1) bytes)) ≡ decoded_from at (drop at bytes) p
-    from_grown = ap (λ (x : Grown). settled x (at + 1) (decoded_from (at + 1) (drop (at + 1) bytes))) e ∙ sym (from_byte inside)
+    from_grown = ap (λ (x : Option Grown). settled x (at + 1) (decoded_from (at + 1) (drop (at + 1) bytes))) e ∙ sym (from_byte inside)
 
-    pub from_more : (q : Part) → g ≡ Grow.More q → decoded_from (at + 1) (drop (at + 1) bytes) q ≡ decoded_from at (drop at bytes) p
+    pub from_more : (q : Part) → g ≡ Some (Grow.More q) → decoded_from (at + 1) (drop (at + 1) bytes) q ≡ decoded_from at (drop at bytes) p
     unfolding settled
     from_more q i = rw i at from_grown
 
-    pub from_whole : (v : ℕ) → g ≡ Grow.Whole v → Read.Number v (at + 1) ≡ decoded_from at (drop at bytes) p
+    pub from_whole : (v : ℕ) → g ≡ Some (Grow.Whole v) → found v (at + 1) ≡ decoded_from at (drop at bytes) p
     unfolding settled
     from_whole v i = rw i at from_grown
 
-    pub from_refused : g ≡ Grow.Refused → Read.Refused ≡ decoded_from at (drop at bytes) p
+    pub from_refused : g ≡ None → None ≡ decoded_from at (drop at bytes) p
     unfolding settled
     from_refused i = rw i at from_grown
 

@@ -1,8 +1,6 @@
 -- A number as bytes: groups of seven bits, low group first, top bit set while more follow. Assumes nothing.
-use Rattle.std.specs.Prelude.{ℕ, zero, suc, ◌+◌, ◌/◌, ◌%◌, Bool, cond, List, [], ◌∷◌, ltb, leb, length}
+use Rattle.std.specs.Prelude.{Option, Some, None, ℕ, zero, suc, ◌+◌, ◌/◌, ◌%◌, Bool, cond, List, [], ◌∷◌, ltb, leb, length}
 use Rattle.std.proofs.lemmas.List.Edits.{sets}
-use Rattle.house_numbers.specs.declared.Encoded.{Encoded}
-use Rattle.house_numbers.specs.declared.Encoded.TheVariants.{Next, NoRoom}
 
 -- the groups of v: as many as it takes, and at most one more than the first number says
 unfoldable pub groups_in : ℕ → (v : ℕ) → List ℕ
@@ -18,8 +16,8 @@ unfoldable pub has_room : (v size at : ℕ) → Bool
 has_room v size at = leb (at + length (encoded v)) size
 
 -- the place after them
-unfoldable pub encoded_next : (v size at : ℕ) → Encoded
-encoded_next v size at = cond (has_room v size at) (Next (at + length (encoded v))) NoRoom
+unfoldable pub encoded_next : (v size at : ℕ) → Option ℕ
+encoded_next v size at = cond (has_room v size at) (Some (at + length (encoded v))) None
 
 -- the bytes afterwards: those of v at the place if they have room, and the others as they were
 unfoldable pub encoded_out : (v : ℕ) → (out : List ℕ) → (at : ℕ) → List ℕ

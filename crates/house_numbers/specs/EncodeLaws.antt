@@ -1,6 +1,6 @@
 -- The bytes of a number, group by group: below 128 the number itself, else its low group and the bytes of the rest.
 -- Ten groups are enough because each division by 128 takes one off the exponent. Assumes nothing.
-use Rattle.std.specs.Prelude.{ℕ, zero, suc, ◌+◌, ◌/◌, ◌%◌, ◌^◌, ◌≤◌, ◌<◌, ◌≡◌, List, [], ◌∷◌, set}
+use Rattle.std.specs.Prelude.{Some, None, ℕ, zero, suc, ◌+◌, ◌/◌, ◌%◌, ◌^◌, ◌≤◌, ◌<◌, ◌≡◌, List, [], ◌∷◌, set}
 use Rattle.std.proofs.Common.{arith, pow-suc, div-lt_iff_lt-mul, sym, ap, ◌∙◌, lit<, add-one, lt-ltb, le-ltb, le-leb}
 use Rattle.std.proofs.Math.Decide.{dec_lt}
 use Rattle.std.proofs.Math.Path.{refl}
@@ -8,7 +8,6 @@ use Rattle.std.proofs.Math.Logic.{by_cases}
 use Rattle.std.proofs.Math.ListN.{length}
 use Rattle.std.proofs.lemmas.List.Edits.{sets}
 use Rattle.std.proofs.lemmas.Bool.{lt-leb}
-use Rattle.house_numbers.specs.declared.Encoded.TheVariants.{Next, NoRoom}
 use Rattle.house_numbers.specs.Encode.{groups_in, encoded, has_room, encoded_next, encoded_out}
 
 groups_small : (f v : ℕ) → v < 128 → groups_in f v ≡ v ∷ []
@@ -86,7 +85,7 @@ sets_large out at v fits h = rw add-one (sym (ap (sets out at) (encoded_large v 
 
 module _ (v : ℕ) (out : List ℕ) (at : ℕ) where
   module _ (h : length out < at + length (encoded v)) where
-    pub next_none : NoRoom ≡ encoded_next v (length out) at
+    pub next_none : None ≡ encoded_next v (length out) at
     unfolding encoded_next has_room
     next_none = rw (lt-leb (at + length (encoded v)) (length out) h) refl
 
@@ -95,7 +94,7 @@ module _ (v : ℕ) (out : List ℕ) (at : ℕ) where
     out_kept = rw (lt-leb (at + length (encoded v)) (length out) h) refl
 
   module _ (h : at + length (encoded v) ≤ length out) where
-    pub next_after : Next (at + length (encoded v)) ≡ encoded_next v (length out) at
+    pub next_after : Some (at + length (encoded v)) ≡ encoded_next v (length out) at
     unfolding encoded_next has_room
     next_after = rw (le-leb (at + length (encoded v)) (length out) h) refl
 

@@ -1,7 +1,7 @@
 -- The two round trips. What is encoded decodes to itself, at any place and whatever follows; what decodes is, unless it is padded, the
 -- bytes of its number. Both go group by group: a part with value u and g groups, followed by the groups of w, is u + w · 128^g.
 -- Assumes nothing.
-use Rattle.std.specs.Prelude.{ℕ, zero, suc, ◌+◌, ◌-◌, ◌*◌, ◌/◌, ◌%◌, ◌^◌, ◌≤◌, ◌<◌, ◌≡◌, List, [], ◌∷◌, ◌++◌, length, take, drop, get_or}
+use Rattle.std.specs.Prelude.{Option, Some, None, ℕ, zero, suc, ◌+◌, ◌-◌, ◌*◌, ◌/◌, ◌%◌, ◌^◌, ◌≤◌, ◌<◌, ◌≡◌, List, [], ◌∷◌, ◌++◌, length, take, drop, get_or}
 use Rattle.std.proofs.Common.{arith, add-one, mod-eq_of_lt, mul-le-mul_left, lit<, sym, ◌∙◌, append_assoc, length-drop, drop_at, get_or-drop, length-take-le}
 use Rattle.std.proofs.Math.Decide.{dec_lt}
 use Rattle.std.proofs.Math.Nat.{pow-suc, one-le-pow}
@@ -11,11 +11,10 @@ use Rattle.std.proofs.lemmas.List.Edits.{sets, sets-eq}
 use Rattle.house_numbers.specs.declared.Part.{Part}
 use Rattle.house_numbers.specs.declared.Grown.TheVariants as Grow
 use Rattle.house_numbers.specs.declared.Decoded.{Decoded}
-use Rattle.house_numbers.specs.declared.Decoded.TheVariants as Read
 use Rattle.house_numbers.specs.Encode.{encoded}
 use Rattle.house_numbers.specs.EncodeLaws.{encoded_small, encoded_large, length_small, length_large, length_pos, length_ten}
-use Rattle.house_numbers.specs.Decode.{no_groups, grown_value, grown_by, settled, decoded_from, decoded_at}
-use Rattle.house_numbers.specs.DecodeLaws.{grown_long, grown_wide, grown_whole, grown_more}
+use Rattle.house_numbers.specs.Decode.{found, no_groups, grown_value, grown_by, settled, decoded_from, decoded_at}
+use Rattle.house_numbers.specs.DecodeLaws.{found_value, found_next, grown_long, grown_wide, grown_whole, grown_more}
 
 -- the part after one more group
 abbrev grown_part : Part → ℕ → Part
@@ -24,15 +23,15 @@ grown_part p b = record { value = grown_value p b; groups = p.groups + 1 }
 -- ---- a byte at the front
 
 module _ (at b : ℕ) (bs : List ℕ) (p : Part) where
-  front_more : Grow.More (grown_part p b) ≡ grown_by p b → decoded_from at (b ∷ bs) p ≡ decoded_from (at + 1) bs (grown_part p b)
+  front_more : Some (Grow.More (grown_part p b)) ≡ grown_by p b → decoded_from at (b ∷ bs) p ≡ decoded_from (at + 1) bs (grown_part p b)
   unfolding decoded_from settled
   front_more e = rw (← e) refl
 
-  front_whole : Grow.Whole (grown_value p b) ≡ grown_by p b → decoded_from at (b ∷ bs) p ≡ Read.Number (grown_value p b) (at + 1)
+  front_whole : Some (Grow.Whole (grown_value p b)) ≡ grown_by p b → decoded_from at (b ∷ bs) p ≡ found (grown_value p b) (at + 1)
   unfolding decoded_from settled
   front_whole e = rw (← e) refl
 
-  front_refused : Grow.Refused ≡ grown_by p b → decoded_from at (b ∷ bs) p ≡ Read.Refused
+  front_refused : None ≡ grown_by p b → decoded_from at (b ∷ bs) p ≡ None
   unfolding decoded_from settled
   front_refused e = rw (← e) refl
 
@@ -50,18 +49,18 @@ module _ (p : Part) where
 
 -- ---- what is encoded decodes to itself
 
-number_at : (v w m n : ℕ) → v ≡ w → m ≡ n → Read.Number v m ≡ Read.Number w n
+number_at : (v w m n : ℕ) → v ≡ w → m ≡ n → found v m ≡ found w n
 number_at v w m n e f = cc
 
 decode_last : (v at : ℕ) (rest : List ℕ) (p : Part) → v < 128 → p.value + v * 128 ^ p.groups < 2 ^ 64 → p.groups + length (encoded v) ≤ 10
-    → decoded_from at (encoded v ++ rest) p ≡ Read.Number (p.value + v * 128 ^ p.groups) (at + length (encoded v))
+    → decoded_from at (encoded v ++ rest) p ≡ found (p.value + v * 128 ^ p.groups) (at + length (encoded v))
 decode_last v at rest p s h l =
     ap (λ (xs : List ℕ). decoded_from at (xs ++ rest) p) (encoded_small v s)
     ∙ front_whole at v rest p (grown_whole p v (omega (arith, length_small v s)) (rw (value_one p v s) h) s)
     ∙ number_at _ _ _ _ (value_one p v s) (omega (arith, length_small v s))
 
 decode_groups : (f v : ℕ) → v ≤ f → v < 2 ^ 64 → (at : ℕ) (rest : List ℕ) (p : Part) → p.value + v * 128 ^ p.groups < 2 ^ 64 → p.groups + length (encoded v) ≤ 10
-    → decoded_from at (encoded v ++ rest) p ≡ Read.Number (p.value + v * 128 ^ p.groups) (at + length (encoded v))
+    → decoded_from at (encoded v ++ rest) p ≡ found (p.value + v * 128 ^ p.groups) (at + length (encoded v))
 decode_groups zero v hf small at rest p h l = decode_last v at rest p (omega arith) h l
 decode_groups (suc f) v hf small at rest p h l =
     by_cases (dec_lt v 128) (λ (s : v < 128). decode_last v at rest p s h l)
@@ -77,7 +76,7 @@ decode_groups (suc f) v hf small at rest p h l =
     ∙ number_at _ _ _ _ value (omega arith))
 
 pub decode_encoded : (v : ℕ) → v < 2 ^ 64 → (before rest : List ℕ)
-    → decoded_at (before ++ encoded v ++ rest) (length before) ≡ Read.Number v (length before + length (encoded v))
+    → decoded_at (before ++ encoded v ++ rest) (length before) ≡ found v (length before + length (encoded v))
 unfolding decoded_at
 decode_encoded v h before rest =
     ap (λ (xs : List ℕ). decoded_from (length before) xs no_groups) (ap (drop (length before)) (append_assoc before (encoded v) rest) ∙ drop_at before (encoded v ++ rest) (length before) refl)
@@ -86,7 +85,7 @@ decode_encoded v h before rest =
 
 -- what `encode` wrote, `decode` reads
 pub decode_written : (v : ℕ) → v < 2 ^ 64 → (out : List ℕ) (at : ℕ) → at + length (encoded v) ≤ length out
-    → decoded_at (sets out at (encoded v)) at ≡ Read.Number v (at + length (encoded v))
+    → decoded_at (sets out at (encoded v)) at ≡ found v (at + length (encoded v))
 decode_written v h out at room =
     let front : length (take at out) ≡ at = length-take-le at out (omega arith) in
     ap (λ (xs : List ℕ). decoded_at xs at) (sets-eq (encoded v) out at room)
@@ -113,14 +112,14 @@ pub record Reading (p : Part) (at : ℕ) (bs : List ℕ) (v next : ℕ) : Type 0
   pub positive : 0 < get_or bs (k - 1) 0 → 0 < w
   pub bytes : (1 < k → 0 < get_or bs (k - 1) 0) → take k bs ≡ encoded w
 
-never : (x : Decoded) (v next : ℕ) → x ≡ Read.Refused → x ≡ Read.Number v next → ⊥
+never : (x : Option Decoded) (v next : ℕ) → x ≡ None → x ≡ found v next → ⊥
 never x v next e f = let z : ◌≡◌ {A = ℕ} 0 1 = cc in omega arith
 
-value_same : (x : Decoded) (v w m n : ℕ) → x ≡ Read.Number v m → x ≡ Read.Number w n → v ≡ w
-value_same x v w m n e f = cc
+value_same : (x : Option Decoded) (v w m n : ℕ) → x ≡ found v m → x ≡ found w n → v ≡ w
+value_same x v w m n e f = found_value v w m n (sym e ∙ f)
 
-next_same : (x : Decoded) (v w m n : ℕ) → x ≡ Read.Number v m → x ≡ Read.Number w n → m ≡ n
-next_same x v w m n e f = cc
+next_same : (x : Option Decoded) (v w m n : ℕ) → x ≡ found v m → x ≡ found w n → m ≡ n
+next_same x v w m n e f = found_next v w m n (sym e ∙ f)
 
 -- the byte before the last place, in a list with one byte in front
 last_after : (b : ℕ) (bs : List ℕ) (k : ℕ) → 1 ≤ k → get_or (b ∷ bs) (suc k - 1) 0 ≡ get_or bs (k - 1) 0
@@ -129,7 +128,7 @@ last_after b bs k h =
     ap (λ (i : ℕ). get_or (b ∷ bs) i 0) e
 
 reading_last : (at b : ℕ) (bs : List ℕ) (p : Part) (v next : ℕ) → p.groups ≤ 9 → grown_value p b < 2 ^ 64 → b < 128
-    → decoded_from at (b ∷ bs) p ≡ Read.Number v next → Reading p at (b ∷ bs) v next
+    → decoded_from at (b ∷ bs) p ≡ found v next → Reading p at (b ∷ bs) v next
 reading_last at b bs p v next g h s e =
     let own = front_whole at b bs p (grown_whole p b g h s) in
     let same : v ≡ grown_value p b = value_same _ v (grown_value p b) next (at + 1) e own in
@@ -184,9 +183,9 @@ reading_more at b bs p v next g byte s r =
           ∙ sym (encoded_large w small more);
     }
 
-pub reading : (bs : List ℕ) (at : ℕ) (p : Part) (v next : ℕ) → AllBytes bs → decoded_from at bs p ≡ Read.Number v next → Reading p at bs v next
+pub reading : (bs : List ℕ) (at : ℕ) (p : Part) (v next : ℕ) → AllBytes bs → decoded_from at bs p ≡ found v next → Reading p at bs v next
 unfolding decoded_from AllBytes
-reading [] at p v next all e = absurd (never Read.Refused v next refl e)
+reading [] at p v next all e = absurd (never None v next refl e)
 reading (b ∷ bs) at p v next all e =
     by_cases (dec_lt 9 p.groups)
     (λ (h : 9 < p.groups). absurd (never _ v next (front_refused at b bs p (grown_long p b h)) e))
@@ -201,7 +200,7 @@ reading (b ∷ bs) at p v next all e =
     (λ (h : grown_value p b < 2 ^ 64 → ⊥). absurd (never _ v next (front_refused at b bs p (grown_wide p b (omega arith) (omega arith))) e)))
 
 -- a number that was read: its bytes lie inside, are one to ten, and no fewer than encoding takes; unless padded they are what encoding gives
-module _ (bytes : List ℕ) (at v next : ℕ) (all : AllBytes bytes) (e : decoded_at bytes at ≡ Read.Number v next) where
+module _ (bytes : List ℕ) (at v next : ℕ) (all : AllBytes bytes) (e : decoded_at bytes at ≡ found v next) where
   reading_at : Reading no_groups at (drop at bytes) v next
   unfolding decoded_at AllBytes
   reading_at =

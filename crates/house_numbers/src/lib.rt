@@ -7,7 +7,7 @@ ghost use Rattle.house_numbers.specs.Encode.{encoded, encoded_next, encoded_out}
 ghost use Rattle.house_numbers.specs.Decode.{grown_by, decoded_at};
 
 // A number that is being read: the value of its groups so far, and how many they are.
-#[derive(Clone, Copy)]
+#[derive(Clone, Copy, Default)]
 pub struct Part {
     pub value: u64,
     pub groups: u64,
@@ -18,89 +18,67 @@ pub struct Part {
 pub enum Grown {
     More(Part),
     Whole(u64),
-    Refused,
 }
 
-// What stands at a place: a number and the place after it, or no number.
+// A number that was read, and the place after it.
 #[derive(Clone, Copy)]
-pub enum Decoded {
-    Number { value: u64, next: usize },
-    Refused,
+pub struct Decoded {
+    pub value: u64,
+    pub next: usize,
 }
 
-// The place after a number that was written, or that it has no room.
-#[derive(Clone, Copy)]
-pub enum Encoded {
-    Next(usize),
-    NoRoom,
-}
-
-// Takes one more byte to a part. Refused: an eleventh group, or a value of over 64 bits.
-pub fn grow(part: Part, byte: u8) -> Grown
+// Takes one more byte to a part. None: an eleventh group, or a value of over 64 bits.
+pub fn grow(part: Part, byte: u8) -> Option<Grown>
     ensures { result ≡ grown_by part byte }
 {
-    let value = part.value;
-    let groups = part.groups;
+    let Part { value, groups } = part;
     if groups > 9 {
-        return Grown::Refused;
+        return None;
     }
-    let b = byte as u64;
-    let group = b % 128;
+    let group = byte as u64 % 128;
     let shift = 7 * groups;
     if group > (u64::MAX - value) >> shift {
-        return Grown::Refused;
+        return None;
     }
     let sum = value + (group << shift);
-    if b < 128 {
-        return Grown::Whole(sum);
+    if byte < 128 {
+        return Some(Grown::Whole(sum));
     }
-    Grown::More(Part {
+    Some(Grown::More(Part {
         value: sum,
         groups: groups + 1,
-    })
+    }))
 }
 
-// Reads the number at a place. Refused: the bytes end within it, or `grow` refuses it.
-pub fn decode(bytes: &[u8], at: usize) -> Decoded
+// Reads the number at a place. None: the bytes end within it, or `grow` refuses it.
+pub fn decode(bytes: &[u8], at: usize) -> Option<Decoded>
     ensures { result ≡ decoded_at bytes.now at }
 {
-    let mut part = Part {
-        value: 0,
-        groups: 0,
-    };
-    let mut place = at;
-    while place < bytes.len() {
-        match grow(part, bytes[place]) {
-            Grown::More(more) => {
-                part = more;
-            }
+    let mut part = Part::default();
+    for place in at..bytes.len() {
+        match grow(part, bytes[place])? {
+            Grown::More(more) => part = more,
             Grown::Whole(value) => {
-                return Decoded::Number {
+                return Some(Decoded {
                     value,
                     next: place + 1,
-                };
-            }
-            Grown::Refused => {
-                return Decoded::Refused;
+                });
             }
         }
-        place += 1;
     }
-    Decoded::Refused
+    None
 }
 
-// Writes a number at a place, if there is room for all of it.
-pub fn encode(value: u64, out: &mut [u8], at: usize) -> Encoded
+// Writes a number at a place, and answers the place after it. None where it has no room.
+pub fn encode(value: u64, out: &mut [u8], at: usize) -> Option<usize>
     ensures answer { result ≡ encoded_next value (length out.old) at }
     ensures buffer { out.new ≡ encoded_out value out.old at }
 {
-    if at > out.len() {
-        return Encoded::NoRoom;
+    let room = out.len().checked_sub(at)?;
+    if group_count(value) > room {
+        return None;
     }
-    if group_count(value) > out.len() - at {
-        return Encoded::NoRoom;
-    }
-    Encoded::Next(put_groups(value, out, at))
+    Some(put_groups(value, out, at))
 }
 
 // How many groups a number has: one, and one more for each seven bits that are left.

@@ -1,6 +1,6 @@
 -- Errors of form (18): input short, left over, a number of over ten groups or over 64 bits, or a bump flag other than 0 or 1.
 -- Assumes nothing.
-use Rattle.std.specs.Prelude.{ℕ, ◌-◌, Bool, false, cond, ◌&&◌, List, [], ◌∷◌, eqb, leb, ltb, length, get_or, drop}
+use Rattle.std.specs.Prelude.{Option as Maybe, Some, None, ℕ, ◌-◌, Bool, false, cond, ◌&&◌, List, [], ◌∷◌, eqb, leb, ltb, length, get_or, drop}
 use Rattle.std.proofs.Math.Option.{Option, none, some}
 use Rattle.house_numbers.specs.declared.Part.{Part}
 use Rattle.house_numbers.specs.declared.Grown.{Grown}
@@ -12,10 +12,10 @@ in_front v none = none
 in_front v (some ns) = some (v ∷ ns)
 
 -- the numbers after one more byte, from what the bytes that follow make of a part
-unfoldable pub numbers_by : Grown → (Part → Option (List ℕ)) → Option (List ℕ)
-numbers_by (Grow.More p) rest = rest p
-numbers_by (Grow.Whole v) rest = in_front v (rest no_groups)
-numbers_by Grow.Refused rest = none
+unfoldable pub numbers_by : Maybe Grown → (Part → Option (List ℕ)) → Option (List ℕ)
+numbers_by (Some (Grow.More p)) rest = rest p
+numbers_by (Some (Grow.Whole v)) rest = in_front v (rest no_groups)
+numbers_by None rest = none
 
 -- the numbers that the bytes are, of which the first goes on from a part; none where one is refused, or the bytes end within one
 unfoldable pub numbers_from : List ℕ → Part → Option (List ℕ)

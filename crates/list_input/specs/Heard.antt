@@ -1,6 +1,6 @@
 -- What a scan of a whole input says of it. The bytes are its numbers one after the other: the form, the count and the numbers kept after
 -- the bytes are those after the numbers; where the bytes are no numbers, the scan does not end well. Assumes nothing.
-use Rattle.std.specs.Prelude.{ℕ, suc, ◌+◌, ◌≤◌, min, ◌≡◌, refl, Bool, true, false, cond, ◌&&◌, List, [], ◌∷◌, eqb, length, take, drop, set}
+use Rattle.std.specs.Prelude.{Option as Maybe, Some, None, ℕ, suc, ◌+◌, ◌≤◌, min, ◌≡◌, refl, Bool, true, false, cond, ◌&&◌, List, [], ◌∷◌, eqb, length, take, drop, set}
 use Rattle.std.proofs.Common.{arith, sym, ap, ◌∙◌, take_at, eqb-true, lt-ltb}
 use Rattle.std.proofs.Math.Bool.{and-false}
 use Rattle.std.proofs.Math.Option.{Option, none, some}
@@ -10,8 +10,8 @@ use Rattle.house_numbers.specs.declared.Grown.TheVariants as Grow
 use Rattle.house_numbers.specs.Decode.{no_groups, grown_by}
 use Rattle.list_input.specs.declared.Scan.{Scan}
 use Rattle.list_input.specs.Form.{in_front, numbers_by, numbers_from, numbers_of, well_formed, if_formed, form_of}
-use Rattle.list_input.specs.Scan.{form_ends, scan_start, counted, scan_by, store_by, fed_scan, fed_numbers, scan_ends, form_after, count_after, kept_after}
-use Rattle.list_input.specs.FormLaws.{step_broken, ends_broken, form_ends_lem}
+use Rattle.list_input.specs.Scan.{form_then, form_ends, scan_start, counted, scan_after, stored, scan_by, store_by, fed_scan, fed_numbers, scan_ends, form_after, count_after, kept_after}
+use Rattle.list_input.specs.FormLaws.{form_ends_lem}
 
 never : (x : Option (List ℕ)) (ns : List ℕ) → x ≡ none → x ≡ some ns → ⊥
 never x ns e f = let z : ◌≡◌ {A = ℕ} 0 1 = cc in omega arith
@@ -38,24 +38,24 @@ hears_none s numbers ns e = go (eqb s.part.groups 0) refl ns e
     go false k ns e = absurd (never none ns refl e)
 
 hears_more : (b : ℕ) (bytes : List ℕ) → Hears bytes → Hears (b ∷ bytes)
-unfolding Hears numbers_from numbers_by fed_scan fed_numbers scan_by store_by form_after count_after kept_after
+unfolding Hears numbers_from numbers_by fed_scan fed_numbers scan_by scan_after store_by form_after count_after kept_after
 hears_more b bytes hears s numbers ns e = go (grown_by s.part b) ns e
   where
     whole : (v : ℕ) (x : Option (List ℕ)) → numbers_from bytes no_groups ≡ x → (ns : List ℕ) → in_front v x ≡ some ns
-        → Heard s numbers ns (fed_scan (scan_by s (Grow.Whole v)) bytes) (fed_numbers (scan_by s (Grow.Whole v)) (store_by s.count numbers (Grow.Whole v)) bytes)
+        → Heard s numbers ns (fed_scan (scan_after s v) bytes) (fed_numbers (scan_after s v) (stored s.count numbers v) bytes)
     whole v none k ns e = absurd (never none ns refl e)
     whole v (some rest) k ns e =
         let same : ns ≡ v ∷ rest = cc in
-        let h = hears (scan_by s (Grow.Whole v)) (store_by s.count numbers (Grow.Whole v)) rest k in
+        let h = hears (scan_after s v) (stored s.count numbers v) rest k in
         rw same (record { whole = h.whole; form = h.form; count = h.count; kept = h.kept })
 
-    go : (g : Grown) (ns : List ℕ) → numbers_by g (numbers_from bytes) ≡ some ns
+    go : (g : Maybe Grown) (ns : List ℕ) → numbers_by g (numbers_from bytes) ≡ some ns
         → Heard s numbers ns (fed_scan (scan_by s g) bytes) (fed_numbers (scan_by s g) (store_by s.count numbers g) bytes)
-    go (Grow.More p) ns e =
-        let h = hears (scan_by s (Grow.More p)) numbers ns e in
+    go (Some (Grow.More p)) ns e =
+        let h = hears (scan_by s (Some (Grow.More p))) numbers ns e in
         record { whole = h.whole; form = h.form; count = h.count; kept = h.kept }
-    go (Grow.Whole v) ns e = whole v (numbers_from bytes no_groups) refl ns e
-    go Grow.Refused ns e = absurd (never none ns refl e)
+    go (Some (Grow.Whole v)) ns e = whole v (numbers_from bytes no_groups) refl ns e
+    go None ns e = absurd (never none ns refl e)
 
 hears_all : (bytes : List ℕ) → Hears bytes
 hears_all [] = hears_none
@@ -64,19 +64,19 @@ hears_all (b ∷ bytes) = hears_more b bytes (hears_all bytes)
 -- ---- the bytes are no numbers
 
 -- an error stays
-fed_broken : (bytes : List ℕ) (s : Scan) → s.form.fine ≡ false → (fed_scan s bytes).form.fine ≡ false
-unfolding fed_scan scan_by
+fed_broken : (bytes : List ℕ) (s : Scan) → s.form ≡ None → (fed_scan s bytes).form ≡ None
+unfolding fed_scan scan_by scan_after form_then
 fed_broken [] s e = e
 fed_broken (b ∷ bytes) s e = fed_broken bytes (scan_by s (grown_by s.part b)) (go (grown_by s.part b))
   where
-    go : (g : Grown) → (scan_by s g).form.fine ≡ false
-    go (Grow.More p) = e
-    go (Grow.Whole v) = step_broken s.form v e
-    go Grow.Refused = refl
+    go : (g : Maybe Grown) → (scan_by s g).form ≡ None
+    go (Some (Grow.More p)) = e
+    go (Some (Grow.Whole v)) = rw e refl
+    go None = refl
 
-scan_broken : (s : Scan) → s.form.fine ≡ false → scan_ends s ≡ false
-unfolding scan_ends
-scan_broken s e = rw (ends_broken s.form e) (and-false (eqb s.part.groups 0))
+scan_broken : (s : Scan) → s.form ≡ None → scan_ends s ≡ false
+unfolding scan_ends form_ends
+scan_broken s e = rw e (and-false (eqb s.part.groups 0))
 
 Deaf : List ℕ → Type 0
 Deaf bytes = (s : Scan) → numbers_from bytes s.part ≡ none → scan_ends (fed_scan s bytes) ≡ false
@@ -90,17 +90,17 @@ deaf_none s e = go (eqb s.part.groups 0) e
     go false e = refl
 
 deaf_more : (b : ℕ) (bytes : List ℕ) → Deaf bytes → Deaf (b ∷ bytes)
-unfolding Deaf numbers_from numbers_by fed_scan scan_by
+unfolding Deaf numbers_from numbers_by fed_scan scan_by scan_after
 deaf_more b bytes deaf s e = go (grown_by s.part b) e
   where
-    whole : (x : Option (List ℕ)) (v : ℕ) → numbers_from bytes no_groups ≡ x → in_front v x ≡ none → scan_ends (fed_scan (scan_by s (Grow.Whole v)) bytes) ≡ false
-    whole none v k e = deaf (scan_by s (Grow.Whole v)) k
+    whole : (x : Option (List ℕ)) (v : ℕ) → numbers_from bytes no_groups ≡ x → in_front v x ≡ none → scan_ends (fed_scan (scan_after s v) bytes) ≡ false
+    whole none v k e = deaf (scan_after s v) k
     whole (some rest) v k e = absurd (never none (v ∷ rest) refl (sym e))
 
-    go : (g : Grown) → numbers_by g (numbers_from bytes) ≡ none → scan_ends (fed_scan (scan_by s g) bytes) ≡ false
-    go (Grow.More p) e = deaf (scan_by s (Grow.More p)) e
-    go (Grow.Whole v) e = whole (numbers_from bytes no_groups) v refl e
-    go Grow.Refused e = scan_broken _ (fed_broken bytes (scan_by s Grow.Refused) refl)
+    go : (g : Maybe Grown) → numbers_by g (numbers_from bytes) ≡ none → scan_ends (fed_scan (scan_by s g) bytes) ≡ false
+    go (Some (Grow.More p)) e = deaf (scan_by s (Some (Grow.More p))) e
+    go (Some (Grow.Whole v)) e = whole (numbers_from bytes no_groups) v refl e
+    go None e = scan_broken _ (fed_broken bytes (scan_by s None) refl)
 
 deaf_all : (bytes : List ℕ) → Deaf bytes
 deaf_all [] = deaf_none
@@ -114,7 +114,7 @@ count_is [] c h = omega arith
 count_is (v ∷ ns) c h = count_is ns (counted c) (omega arith) ∙ (omega arith)
 
 kept_sets : (ns : List ℕ) (c : ℕ) (numbers : List ℕ) → c + length ns ≤ 205 → kept_after c numbers ns ≡ sets numbers c ns
-unfolding kept_after store_by
+unfolding kept_after stored
 kept_sets [] c numbers h = refl
 kept_sets (v ∷ ns) c numbers h =
     let next : counted c ≡ suc c = omega arith in

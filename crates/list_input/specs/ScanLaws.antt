@@ -1,5 +1,5 @@
 -- Feeding bytes one after the other, and part after part. Assumes nothing.
-use Rattle.std.specs.Prelude.{ℕ, ◌+◌, ◌≤◌, ◌<◌, ◌≡◌, List, [], ◌∷◌, ◌++◌, length, get_or, drop}
+use Rattle.std.specs.Prelude.{Option, ℕ, ◌+◌, ◌≤◌, ◌<◌, ◌≡◌, List, [], ◌∷◌, ◌++◌, length, get_or, drop}
 use Rattle.std.proofs.Math.Numerals.{add-one}
 use Rattle.std.proofs.Math.Path.{refl}
 use Rattle.std.proofs.Common.{sym, drop_of_length-le, drop-cons}
@@ -29,7 +29,7 @@ module _ (s : Scan) (bytes : List ℕ) (i : ℕ) where
     numbers_byte h = rw (drop-cons bytes i 0 h) (rw add-one refl)
 
 -- one more byte, as the code takes it
-module _ (s : Scan) (bytes : List ℕ) (i : ℕ) (h : i < length bytes) (g : Grown) (e : g ≡ grown_by s.part (get_or bytes i 0)) (next : Scan) (f : next ≡ scan_by s g) where
+module _ (s : Scan) (bytes : List ℕ) (i : ℕ) (h : i < length bytes) (g : Option Grown) (e : g ≡ grown_by s.part (get_or bytes i 0)) (next : Scan) (f : next ≡ scan_by s g) where
   pub fed_step : fed_scan next (drop (i + 1) bytes) ≡ fed_scan s (drop i bytes)
   fed_step = rw (f, e) (sym (fed_byte s bytes i h))
 

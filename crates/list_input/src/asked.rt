@@ -60,17 +60,15 @@ pub fn over_size(ns: &[u64]) -> bool
     requires { well_formed ns.now ≡ true }
     ensures { result ≡ over_size ns.now }
 {
-    if ns[0] > 1024 {
-        return true;
-    }
     let buckets = ns[12];
-    if buckets > 64 {
+    if ns[0] > 1024 || buckets > 64 {
         return true;
     }
     ns.len() - 13 - buckets as usize > 128
 }
 
 // Takes the groups apart: the hashes, and where each bucket's keys begin and at last end. Answers how many hashes there are.
+#[tactic(auto, using(crate::specs::AskedLaws::long_enough))]
 pub fn split(ns: &[u64], hashes: &mut [u64; 128], begins: &mut [u32; 65]) -> usize
     requires ns_value { well_formed ns.now ≡ true }
     requires ns_value_2 { over_size ns.now ≡ false }
@@ -81,18 +79,15 @@ pub fn split(ns: &[u64], hashes: &mut [u64; 128], begins: &mut [u32; 65]) -> usi
     let mut h: usize = 0;
     let mut b: usize = 0;
     let mut keys = 0;
-    let mut i = 13;
-    while i < ns.len() {
+    for &n in &ns[13..] {
         if keys > 0 {
-            hashes[h] = ns[i];
+            hashes[h] = n;
             h += 1;
             keys -= 1;
-            i += 1;
         } else {
             begins[b] = h as u32;
             b += 1;
-            keys = ns[i];
-            i += 1;
+            keys = n;
         }
     }
     begins[b] = h as u32;

@@ -9,19 +9,19 @@ pub use asked::{bump_of, over_size, settings_of, split, weights_of};
 use house_numbers::Part;
 pub use stream::{feed, scan_ends, start};
 
-// The form so far: numbers of the head that were read, hashes of the present bucket and then buckets still to come, and no error yet.
+// Where the form stands: so many numbers of the head were read, or the head is over, with so many hashes of the present bucket and then so
+// many buckets still to come.
 #[derive(Clone, Copy)]
-pub struct Form {
-    pub head: u64,
-    pub keys: u64,
-    pub buckets: u64,
-    pub fine: bool,
+pub enum Form {
+    Head(u64),
+    Groups { keys: u64, buckets: u64 },
 }
 
-// The number that is being read, the form, and how many numbers were read: 206 stands for every number above 205.
+// The number that is being read, the form unless there was an error of form, and how many numbers were read: 206 stands for every number
+// above 205.
 #[derive(Clone, Copy)]
 pub struct Scan {
     pub part: Part,
-    pub form: Form,
+    pub form: Option<Form>,
     pub count: usize,
 }

@@ -1,102 +1,65 @@
-// The form, number by number: thirteen numbers at the head, then per bucket its key count and hashes.
-ghost use Rattle.std.specs.Prelude.{◌≡◌, ◌&&◌, ◌<◌};
-ghost use Rattle.list_input.specs.Scan.{flag_fits, head_step, body_step, form_step, form_ends, broken_form};
+// The form, number by number: thirteen numbers at the head, then per bucket its key count and hashes. None is an error of form.
+ghost use Rattle.std.specs.Prelude.{◌≡◌};
+ghost use Rattle.list_input.specs.Scan.{head_step, body_step, form_step, form_ends};
 
 use crate::Form;
 
-// Still no error after a number of the head: the bump flag, the fifth number, is 0 or 1.
-fn still_fine(fine: bool, head: u64, v: u64) -> bool
-    ensures { result ≡ (fine && flag_fits head v) }
+// One of the thirteen numbers at the head. The fifth, the bump flag, is 0 or 1; the last is the number of buckets to come.
+#[tactic(auto, unfolding(crate::specs::Scan::head_step, crate::specs::Scan::flag_fits))]
+fn head_step(head: u64, v: u64) -> Option<Form>
+    ensures { result ≡ head_step head v }
 {
-    if head != 4 {
-        return fine;
+    if head == 4 && v > 1 {
+        return None;
     }
-    if v > 1 {
-        return false;
+    if head < 12 {
+        return Some(Form::Head(head + 1));
     }
-    fine
-}
-
-// One of the thirteen numbers at the head. The last is the number of buckets to come.
-fn head_step(form: Form, v: u64) -> Form
-    requires { form.head < 13 }
-    ensures { result ≡ head_step form v }
-{
-    let head = form.head;
-    let fine = still_fine(form.fine, head, v);
-    if head == 12 {
-        return Form {
-            head: head + 1,
-            keys: form.keys,
-            buckets: v,
-            fine,
-        };
-    }
-    Form {
-        head: head + 1,
-        keys: form.keys,
-        buckets: form.buckets,
-        fine,
-    }
+    Some(Form::Groups {
+        keys: 0,
+        buckets: v,
+    })
 }
 
 // A hash, or the next bucket's key count, or left over.
-fn body_step(form: Form, v: u64) -> Form
-    ensures { result ≡ body_step form v }
+#[tactic(auto, unfolding(crate::specs::Scan::body_step))]
+fn body_step(keys: u64, buckets: u64, v: u64) -> Option<Form>
+    ensures { result ≡ body_step keys buckets v }
 {
-    if form.keys > 0 {
-        return Form {
-            head: form.head,
-            keys: form.keys - 1,
-            buckets: form.buckets,
-            fine: form.fine,
-        };
-    }
-    if form.buckets > 0 {
-        return Form {
-            head: form.head,
+    match (keys, buckets) {
+        (0, 0) => None,
+        (0, _) => Some(Form::Groups {
             keys: v,
-            buckets: form.buckets - 1,
-            fine: form.fine,
-        };
-    }
-    broken(form)
-}
-
-// An error of form.
-pub fn broken(form: Form) -> Form
-    ensures { result ≡ broken_form form }
-{
-    Form {
-        head: form.head,
-        keys: form.keys,
-        buckets: form.buckets,
-        fine: false,
+            buckets: buckets - 1,
+        }),
+        _ => Some(Form::Groups {
+            keys: keys - 1,
+            buckets,
+        }),
     }
 }
 
 // One more number.
-pub fn form_step(form: Form, v: u64) -> Form
+#[tactic(auto, unfolding(crate::specs::Scan::form_step))]
+pub fn form_step(form: Form, v: u64) -> Option<Form>
     ensures { result ≡ form_step form v }
 {
-    if form.head < 13 {
-        return head_step(form, v);
+    match form {
+        Form::Head(head) => head_step(head, v),
+        Form::Groups { keys, buckets } => body_step(keys, buckets, v),
     }
-    body_step(form, v)
 }
 
 // No error so far, and nothing still to come.
-pub fn form_ends(form: Form) -> bool
+#[tactic(auto, unfolding(crate::specs::Scan::form_ends))]
+pub fn form_ends(form: Option<Form>) -> bool
     ensures { result ≡ form_ends form }
 {
-    if form.head < 13 {
-        return false;
-    }
-    if form.keys != 0 {
-        return false;
-    }
-    if form.buckets != 0 {
-        return false;
-    }
-    form.fine
+    matches!(
+        form,
+        Some(Form::Groups {
+            keys: 0,
+            buckets: 0
+        })
+    )
 }

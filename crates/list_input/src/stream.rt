@@ -1,9 +1,10 @@
 // The input as it comes, byte by byte. However long it is, its form is followed to the end, and the first 205 numbers are kept: an
 // accepted input has no more (13 at the head, 64 key counts, 128 hashes).
 ghost use Rattle.std.specs.Prelude.{◌≡◌};
-ghost use Rattle.list_input.specs.Scan.{scan_start, counted, scan_by, store_by, fed_scan, fed_numbers, scan_ends};
+ghost use Rattle.house_numbers.specs.Decode.{grown_by};
+ghost use Rattle.list_input.specs.Scan.{scan_start, scan_after, stored, scan_by, store_by, fed_scan, fed_numbers, scan_ends};
 
-use crate::numbers::{broken, form_ends, form_step};
+use crate::numbers::{form_ends, form_step};
 use crate::{Form, Scan};
 use house_numbers::{Grown, Part, grow};
 
@@ -11,75 +12,43 @@ use house_numbers::{Grown, Part, grow};
 pub fn start() -> Scan
     ensures { result ≡ scan_start }
 {
-    let part = Part {
-        value: 0,
-        groups: 0,
-    };
-    let form = Form {
-        head: 0,
-        keys: 0,
-        buckets: 0,
-        fine: true,
-    };
     Scan {
-        part,
-        form,
+        part: Part::default(),
+        form: Some(Form::Head(0)),
         count: 0,
     }
 }
 
-// One more number; from 206 on the count stays.
-fn count_one(count: usize) -> usize
-    ensures { result ≡ counted count }
+// One more number. It is kept if it is one of the first 205; from 206 on the count stays.
+#[tactic(auto, unfolding(crate::specs::Scan::scan_after, crate::specs::Scan::stored, crate::specs::Scan::form_then))]
+fn take_number(scan: Scan, numbers: &mut [u64; 205], v: u64) -> Scan
+    ensures value { result ≡ scan_after scan v }
+    ensures numbers_after { numbers.new ≡ stored scan.count numbers.old v }
 {
-    if count < 206 {
-        return count + 1;
+    if scan.count < 205 {
+        numbers[scan.count] = v;
     }
-    206
-}
-
-// One more byte, as the part of a number that it made.
-fn scan_step(scan: Scan, grown: Grown) -> Scan
-    ensures { result ≡ scan_by scan grown }
-{
-    let none = Part {
-        value: 0,
-        groups: 0,
-    };
-    match grown {
-        Grown::More(part) => {
-            let form = scan.form;
-            Scan {
-                part,
-                form,
-                count: scan.count,
-            }
-        }
-        Grown::Whole(v) => Scan {
-            part: none,
-            form: form_step(scan.form, v),
-            count: count_one(scan.count),
-        },
-        Grown::Refused => Scan {
-            part: none,
-            form: broken(scan.form),
-            count: scan.count,
-        },
+    Scan {
+        part: Part::default(),
+        form: scan.form.and_then(|form| form_step(form, v)),
+        count: scan.count.saturating_add(1).min(206),
     }
 }
 
-// Keeps a number that was read whole, if it is one of the first 205.
-fn store_step(count: usize, numbers: &mut [u64; 205], grown: Grown)
-    ensures { numbers.new ≡ store_by count numbers.old grown }
+// One more byte.
+#[tactic(auto, unfolding(crate::specs::Scan::scan_by, crate::specs::Scan::store_by))]
+fn take_byte(scan: Scan, numbers: &mut [u64; 205], byte: u8) -> Scan
+    ensures value { result ≡ scan_by scan (grown_by scan.part byte) }
+    ensures numbers_after { numbers.new ≡ store_by scan.count numbers.old (grown_by scan.part byte) }
 {
-    match grown {
-        Grown::Whole(v) => {
-            if count < 205 {
-                numbers[count] = v;
-            }
-        }
-        Grown::More(_) => {}
-        Grown::Refused => {}
+    match grow(scan.part, byte) {
+        Some(Grown::More(part)) => Scan { part, ..scan },
+        Some(Grown::Whole(v)) => take_number(scan, numbers, v),
+        None => Scan {
+            part: Part::default(),
+            form: None,
+            ..scan
+        },
     }
 }
 
@@ -89,23 +58,16 @@ pub fn feed(scan: Scan, numbers: &mut [u64; 205], chunk: &[u8]) -> Scan
     ensures numbers_after { numbers.new ≡ fed_numbers scan numbers.old chunk.now }
 {
     let mut now = scan;
-    let mut i = 0;
-    while i < chunk.len() {
-        let grown = grow(now.part, chunk[i]);
-        store_step(now.count, numbers, grown);
-        now = scan_step(now, grown);
-        i += 1;
+    for &byte in chunk {
+        now = take_byte(now, numbers, byte);
     }
     now
 }
 
 // The input may end here without an error of form (18).
+#[tactic(auto, unfolding(crate::specs::Scan::scan_ends))]
 pub fn scan_ends(scan: Scan) -> bool
     ensures { result ≡ scan_ends scan }
 {
-    let part = scan.part;
-    if part.groups != 0 {
-        return false;
-    }
-    form_ends(scan.form)
+    scan.part.groups == 0 && form_ends(scan.form)
 }

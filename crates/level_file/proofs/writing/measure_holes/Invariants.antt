@@ -5,10 +5,7 @@ use Prim.Native.Nat.{◌+◌, ◌-◌, ◌*◌, ◌≤◌}
 use lib.ListN.{length, drop}
 use Rattle.level_file.proofs.writing.measure_holes.Given as goal
 
-abbrev pub invariant-loop-i : goal.invariant-loop-i
-invariant-loop-i l =
-    Measuring (holes_fine l.m 0 0 l.holes) (gaps_from 0 l.holes) (holes_fine l.m l.before l.least (drop l.i l.holes)) (gaps_from l.before (drop l.i l.holes)) l.total
-    × (l.i ≤ length l.holes) × (l.total ≤ 10 * l.i) × (l.i ≤ l.before + l.least) × (l.before ≤ l.m) × (l.least ≤ 1)
-
-abbrev pub decreases-loop-i : goal.decreases-loop-i
-decreases-loop-i l = length l.holes - l.i
+abbrev pub invariant-loop-hole : goal.invariant-loop-hole
+invariant-loop-hole l =
+    Measuring (holes_fine l.m 0 0 l.holes) (gaps_from 0 l.holes) (holes_fine l.m l.before l.least (drop l.hole-index l.holes)) (gaps_from l.before (drop l.hole-index l.holes)) l.total
+    × (l.total ≤ 10 * l.hole-index) × (l.hole-index ≤ l.before + l.least) × (l.before ≤ l.m) × (l.least ≤ 1)

@@ -10,7 +10,7 @@ turn : (at i q : ℕ) → at + i + q ≡ at + q + i
 turn at i q = omega arith
 
 pub loop-r-init : goal.loop-r-init
-loop-r-init c = (omega arith, layouts_none _ _ _ _ _ _ _)
+loop-r-init c = layouts_none _ _ _ _ _ _ _
 
 pub overflow_mul-d : goal.overflow_mul-d
 overflow_mul-d c = omega (arith, c.requires.layout_keys.below c.loop-r.r c.loop-r-test.true)
@@ -25,7 +25,7 @@ pub offset_bounds-work-at : goal.offset_bounds-work-at
 offset_bounds-work-at c = omega (arith, c.requires.layout_keys.below c.loop-r.r c.loop-r-test.true)
 
 pub bounds-work-at : goal.bounds-work-at
-bounds-work-at c = omega (arith, c.requires.layout_keys.below c.loop-r.r c.loop-r-test.true, c.loop-r.invariant.1.within.len)
+bounds-work-at c = omega (arith, c.requires.layout_keys.below c.loop-r.r c.loop-r-test.true, c.loop-r.invariant.within.len)
 
 pub overflow_mul-r : goal.overflow_mul-r
 overflow_mul-r c =
@@ -37,7 +37,7 @@ overflow_add-to c =
 
 pub or_key-requires : goal.or_key-requires
 or_key-requires c =
-    let i = c.loop-r.invariant.1 in
+    let i = c.loop-r.invariant in
     let lt = c.loop-r-test.true in
     record {
       shape = c.requires.shape;
@@ -48,9 +48,9 @@ or_key-requires c =
 
 pub loop-r-preserved : goal.loop-r-preserved
 loop-r-preserved c =
-    (omega arith, layouts_more c.requires.shape c.requires.words_le_to.0 (c.requires.layout_keys.below c.loop-r.r c.loop-r-test.true) c.loop-r.invariant.1 (rw (← turn c.args.at c.args.i (c.loop-r.r * c.args.size)) at c.or_key.ensures))
+    layouts_more c.requires.shape c.requires.words_le_to.0 (c.requires.layout_keys.below c.loop-r.r c.loop-r-test.true) c.loop-r.invariant (rw (← turn c.args.at c.args.i (c.loop-r.r * c.args.size)) at c.or_key.ensures)
 
 pub returns : goal.returns
 returns c =
     let e : c.loop-r.r ≡ c.args.layouts = omega arith in
-    rw e at c.loop-r.invariant.1
+    rw e at c.loop-r.invariant

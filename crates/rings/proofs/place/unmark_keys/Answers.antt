@@ -15,13 +15,6 @@ slot_of-p-requires c =
       start_bound = c.requires.start_bound;
     }
 
-pub unmark-requires : goal.unmark-requires
-unmark-requires c =
-    record {
-      shape = c.requires.shape;
-      words_in_bounds = omega arith;
-    }
-
 pub loop-i-preserved : goal.loop-i-preserved
 loop-i-preserved c =
     unmarking_more c.requires.shape c.loop-i.invariant c.requires.words_le_at.0 c.loop-i-test.true (omega arith) c.slot_of-p.ensures c.unmark.ensures

@@ -7,7 +7,7 @@ use Rattle.rings.proofs.stream.or_ring.Goals as goal
 
 pub loop-i-init : goal.loop-i-init
 loop-i-init c =
-    (omega arith, stream_none c.args.to c.requires.shape (omega arith) (omega arith) (omega arith) c.word_of-base.ensures.is c.bit_of-s.ensures.0 c.ring_word-low.ensures)
+    stream_none c.args.to c.requires.shape (omega arith) (omega arith) (omega arith) c.word_of-base.ensures.is c.bit_of-s.ensures.0 c.ring_word-low.ensures
 
 pub overflow_add-k : goal.overflow_add-k
 overflow_add-k c =
@@ -24,9 +24,9 @@ ring_word-high-requires c =
 pub loop-i-preserved : goal.loop-i-preserved
 loop-i-preserved c =
     let i = c.loop-i.invariant in
-    (omega arith, stream_more c.requires.shape (omega arith) (omega arith) (omega arith) i.1 c.word_of-base.ensures.is c.bit_of-s.ensures.0 (omega arith) c.ring_word-high.ensures c.join.ensures)
+    stream_more c.requires.shape (omega arith) (omega arith) (omega arith) i c.word_of-base.ensures.is c.bit_of-s.ensures.0 (omega arith) c.ring_word-high.ensures c.join.ensures
 
 pub returns : goal.returns
 returns c =
     let e : c.loop-i.i ≡ c.args.count = omega arith in
-    rw e at c.loop-i.invariant.1.added
+    rw e at c.loop-i.invariant.added

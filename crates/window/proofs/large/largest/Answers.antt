@@ -34,12 +34,6 @@ better-best-requires c =
       size_bound = (omega (arith, c.size_of-size.ensures.0, c.requires.measured.sizes c.loop-b.b l), omega (arith, l, c.requires.measured.low));
     }
 
-pub overflow_add-b : goal.overflow_add-b
-overflow_add-b c = omega (arith, c.loop-b-test.true, c.requires.measured.low)
-
-pub loop-b-smaller : goal.loop-b-smaller
-loop-b-smaller c = omega (arith, c.loop-b-test.true)
-
 pub loop-b-preserved : goal.loop-b-preserved
 loop-b-preserved c =
     step c.args.set.now c.args.begins.now c.args.table.now c.args.o c.args.e c.requires c.loop-b.b c.loop-b.best c.loop-b.invariant (omega (arith, c.loop-b-test.true)) c.better-best.result

@@ -28,8 +28,8 @@ one_more ws t k z h l e =
 pub loop-size-init : goal.loop-size-init
 loop-size-init c = record { from = omega arith; to = omega arith; long = refl; entry = λ j l m. absurd (omega arith) }
 
-pub weight-w-requires : goal.weight-w-requires
-weight-w-requires c =
+pub weight-requires : goal.weight-requires
+weight-requires c =
     record {
       le_size = (c.loop-size.invariant.from, omega arith);
       within = c.requires;
@@ -37,8 +37,8 @@ weight-w-requires c =
 
 pub loop-size-preserved : goal.loop-size-preserved
 loop-size-preserved c =
-    rw (to_z-of_z (small_fits c.weight-w.result (omega (arith, c.weight-w.ensures.result_bound))))
-    (one_more c.args.weights c.loop-size.table c.loop-size.size c.weight-w.result c.loop-size.invariant c.loop-size-test.true c.weight-w.ensures.value)
+    rw (to_z-of_z (small_fits c.weight.result (omega (arith, c.weight.ensures.result_bound))))
+    (one_more c.args.weights c.loop-size.table c.loop-size.size c.weight.result c.loop-size.invariant c.loop-size-test.true c.weight.ensures.value)
 
 pub returns : goal.returns
 returns c =
