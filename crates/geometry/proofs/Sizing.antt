@@ -1,7 +1,7 @@
 -- The test of a bucket size, and the quotient of the keys by it. Assumes nothing.
-use Rattle.std.proofs.Common.{◌≡◌, ℕ, zero, suc, ◌*◌, ◌^◌, ◌<◌, ◌≤◌, Bool, true, false, cond, not, ◌&&◌, ◌||◌, T, eqb, ltb, leb, ◌⊎◌, pos, sym, refl, ap, ◌∙◌, subst, ap₂, inl, inr, true≢false, le_trans, le_of_eq, lt_of_lt_of_le, mul-le-mul_right, eq-zero-or-pos, eq-or-lt_of_le, mul-le-mul_left, mul-pos, ne_of_gt, zero-mul, mul-one, le_of_mul-le-mul_right, arith, lit<, lit≤, ltb→lt, lt→ltb, le-ltb, lt-ltb, eq-eqb, ne_eqb, le-leb, leb-true}
+use Rattle.std.proofs.Common.{◌≡◌, ℕ, zero, suc, ◌*◌, ◌^◌, ◌<◌, ◌≤◌, Bool, true, false, cond, ◌&&◌, ◌||◌, T, eqb, ltb, leb, ◌⊎◌, pos, sym, refl, ap, ◌∙◌, subst, ap₂, inl, inr, true≢false, le_trans, le_of_eq, lt_of_lt_of_le, mul-le-mul_right, eq-zero-or-pos, eq-or-lt_of_le, mul-le-mul_left, mul-pos, ne_of_gt, zero-mul, mul-one, le_of_mul-le-mul_right, arith, lit<, lit≤, ltb→lt, lt→ltb, le-ltb, lt-ltb, eq-eqb, ne_eqb, le-leb, leb-true}
 use native.Mathlib.Decide.{dec_le}
-use borrow.Author.Tests.{lt-leb, not-false}
+use borrow.Author.Tests.{lt-leb}
 use lib.Ieee.{Float, nan, inf, fin, binary64, up, down, round, div, of_int, of_bits, lt, eq, le}
 use lib.Ieee.Fits.{down_pos, up_pos}
 use lib.Ieee.Exact.{HasValue, round_exact}
@@ -198,30 +198,17 @@ quotient_small k cap z L C s = go (eq-zero-or-pos k)
     go (inl e) = subst (λ (n : ℕ). Small (quotient_float n z)) (sym e) (quotient_zero z cap s)
     go (inr p) = quotient_some k z p L wider
 
--- ---- the tests as the code makes them: each is negated, so that a NaN is refused
-abbrev pub low_test : Float → Bool
-low_test z = not (le (of_bits binary64 0x3ff0_0000_0000_0000) z)
-
-abbrev pub high_test : ℕ → Float → Bool
-high_test cap z = not (le z (of_int binary64 (pos cap)))
-
+-- the tests as the code makes them
 cap_value : (cap : ℕ) → cap ≤ 64 → HasValue (of_int binary64 (pos cap)) false cap 1
 unfolding of_int
 cap_value cap h = round_whole binary64 false cap (le_trans h (lit≤ tt))
 
--- both tests at once
-pub by_tests : (cap : ℕ) (z : Float) → cap ≤ 64 → not (size_fits cap z) ≡ (low_test z || high_test cap z)
+pub by_tests : (cap : ℕ) (z : Float) → cap ≤ 64 → size_fits cap z ≡ (le (of_bits binary64 0x3ff0_0000_0000_0000) z && le z (of_int binary64 (pos cap)))
 by_tests cap z h =
-    ap not (size_fits_is cap z (of_int binary64 (pos cap)) (cap_value cap h) ∙ ap (λ (o : Float). le o z && le z (of_int binary64 (pos cap))) (sym one_is))
-    ∙ apart (le (of_bits binary64 0x3ff0_0000_0000_0000) z) (le z (of_int binary64 (pos cap)))
-  where
-    apart : (a b : Bool) → not (a && b) ≡ (not a || not b)
-    apart true b = refl
-    apart false b = refl
+    size_fits_is cap z (of_int binary64 (pos cap)) (cap_value cap h)
+    ∙ ap (λ (o : Float). le o z && le z (of_int binary64 (pos cap))) (sym one_is)
 
-pub fits_by : (cap : ℕ) (z : Float) → cap ≤ 64 → low_test z ≡ false → high_test cap z ≡ false → size_fits cap z ≡ true
-fits_by cap z h a b = not-false (size_fits cap z) (by_tests cap z h ∙ ap₂ ◌||◌ a b)
-
+-- the machine's quotient
 pub quotient_is : (k : ℕ) (z : Float) → k ≤ 67108864 → T (positive z) → div binary64 (of_int binary64 (pos k)) z ≡ quotient_float k z
 unfolding of_int
 quotient_is k z h p = div_is (of_int binary64 (pos k)) z k (round_whole binary64 false k (le_trans h (lit≤ tt))) p

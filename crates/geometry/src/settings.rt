@@ -1,65 +1,47 @@
-// The numbers 1 to 7 that refuse settings.
-ghost use Rattle.std.specs.Prelude.{◌≡◌, ◌<◌, ◌≤◌};
+// The checks of settings, and what follows from them one by one.
+ghost use Rattle.std.specs.Prelude.{◌≡◌, ◌<◌, ◌≤◌, OnOk};
 ghost use Rattle.rules.specs.Geometry.{slice_len, log_len, slices, per_bucket};
-ghost use Rattle.rules.specs.Good.{Usable};
+ghost use Rattle.rules.specs.Good.{Good, Usable};
 ghost use Rattle.rules.specs.Numbers.{first_of, lines_to6, lines_to7};
-ghost use Rattle.rules.specs.Answers.{said_checked, settings_answer};
+ghost use Rattle.rules.specs.Answers.{refused_by, said_checked, settings_answer};
 
-use integers::choice::smaller;
 use integers::power::{log2_up, power_of_two};
-use rules::{Checked, Settings};
+use rules::{Refusal, Settings};
 
-// The first of the numbers 1 to 6 that refuses the settings, or 0.
-pub fn number_to_6(s: Settings) -> u64
-    ensures { (result ≡ first_of (lines_to6 s)) × (result ≤ 6) }
+// Refuses settings by the first of 1 to 6 that applies.
+#[tactic(auto, unfolding(rules::specs::Numbers::first_of, rules::specs::Numbers::lines_to6, rules::specs::Numbers::line1, rules::specs::Numbers::line2, rules::specs::Numbers::line3, rules::specs::Numbers::line4, rules::specs::Numbers::line5, rules::specs::Numbers::line6,))]
+pub fn check_to_6(s: Settings) -> Result<(), Refusal>
+    ensures number { refused_by result ≡ first_of (lines_to6 s) }
+    ensures usable { OnOk result (Usable s) }
 {
-    let m = s.m;
-    let log2_slice_len = s.log2_slice_len;
-    let ll = s.ll;
-    let sb = s.sb;
-    let buckets = s.buckets;
-    if sb < 2 {
-        return 1;
+    if s.sb < 2 || 16 < s.sb {
+        return Err(Refusal::SeedBits);
     }
-    if 16 < sb {
-        return 1;
+    if s.sb <= s.ll {
+        return Err(Refusal::Layouts);
     }
-    if sb <= ll {
-        return 2;
+    if s.log2_slice_len < 3 || 16 < s.log2_slice_len {
+        return Err(Refusal::SliceLen);
     }
-    if log2_slice_len < 3 {
-        return 3;
+    if 6 < s.ll || 64 < s.log2_slice_len << s.ll {
+        return Err(Refusal::LayoutBits);
     }
-    if 16 < log2_slice_len {
-        return 3;
+    if s.m < 1 || 134_217_728 < s.m {
+        return Err(Refusal::Slots);
     }
-    if 6 < ll {
-        return 4;
+    if s.buckets % 2 == 0 || 67_108_865 < s.buckets {
+        return Err(Refusal::Buckets);
     }
-    if 64 < log2_slice_len << ll {
-        return 4;
-    }
-    if m < 1 {
-        return 5;
-    }
-    if 134_217_728 < m {
-        return 5;
-    }
-    if buckets % 2 == 0 {
-        return 6;
-    }
-    if 67_108_865 < buckets {
-        return 6;
-    }
-    0
+    Ok(())
 }
 
 // log2 of the slice length l.
+#[tactic(auto, using(rules::proofs::GeometryLaws::log_len_is))]
 pub fn log2_len(s: Settings) -> u64
     requires { Usable s }
     ensures { (result ≡ log_len s) × (result ≤ 16) }
 {
-    smaller(log2_up(s.m / 2 + 1), s.log2_slice_len)
+    log2_up(s.m / 2 + 1).min(s.log2_slice_len)
 }
 
 // The slice length l.
@@ -83,31 +65,19 @@ pub fn per_bucket(s: Settings) -> u64
     requires { Usable s }
     ensures { (result ≡ per_bucket s) × (result < 268435456) }
 {
-    let b = s.buckets;
-    (slice_count(s) + (b - 1)) / b
+    (slice_count(s) + (s.buckets - 1)) / s.buckets
 }
 
-// The first of the numbers 1 to 7 that refuses the settings, or 0.
-pub fn number_to_7(s: Settings) -> u64
-    ensures { (result ≡ first_of (lines_to7 s)) × (result ≤ 7) }
+// Whether a sweep takes the settings: refuses them by the first of 1 to 7 that applies.
+pub fn check_settings(s: Settings) -> Result<(), Refusal>
+    ensures answer { said_checked result ≡ settings_answer s }
+    ensures number { refused_by result ≡ first_of (lines_to7 s) }
+    ensures good { OnOk result (Good s) }
+    ensures usable { OnOk result (Usable s) }
 {
-    let n = number_to_6(s);
-    if n != 0 {
-        return n;
-    }
+    check_to_6(s)?;
     if 4096 < per_bucket(s) {
-        return 7;
+        return Err(Refusal::SlicesPerBucket);
     }
-    0
-}
-
-// Whether a sweep takes the settings, and else the first number that refuses them.
-pub fn check_settings(s: Settings) -> Checked
-    ensures { said_checked result ≡ settings_answer s }
-{
-    let n = number_to_7(s);
-    if n == 0 {
-        return Checked::Fine;
-    }
-    Checked::Refused(n)
+    Ok(())
 }

@@ -1,22 +1,14 @@
 -- The complete answer of each public call, and each lent word afterwards, from the arguments as they came in. Assumes nothing.
-use Rattle.std.specs.Prelude.{ℕ, zero, suc, cond, List, [], ◌∷◌, ◌++◌, eqb, Float, get_or, length, drop, replicate}
+use Rattle.std.specs.Prelude.{ℕ, zero, suc, cond, List, [], ◌∷◌, ◌++◌, eqb, Float, get_or, length, drop, replicate, Result, Ok, Err, Some, None, ⊤}
+use Rattle.std.specs.Prelude
 use Rattle.std.proofs.Math.Option.{Option, none, some}
 use Rattle.rules.specs.declared.Settings.{Settings}
 use Rattle.rules.specs.declared.How.{How}
 use Rattle.rules.specs.declared.Counts.{Counts}
-use Rattle.rules.specs.declared.Named.{Named}
-use Rattle.rules.specs.declared.Named.TheVariants.{Bucket, NoBucket}
-use Rattle.rules.specs.declared.Outcome.{Outcome}
-use Rattle.rules.specs.declared.Outcome.TheVariants as Ended
 use Rattle.rules.specs.declared.SweepRecord.{SweepRecord}
-use Rattle.rules.specs.declared.Looked.{Looked}
-use Rattle.rules.specs.declared.Looked.TheVariants as Look
-use Rattle.rules.specs.declared.Listed.{Listed}
-use Rattle.rules.specs.declared.Listed.TheVariants as Hole
-use Rattle.rules.specs.declared.Checked.{Checked}
-use Rattle.rules.specs.declared.Checked.TheVariants as Check
-use Rattle.rules.specs.declared.Counted.{Counted}
-use Rattle.rules.specs.declared.Counted.TheVariants as Count
+use Rattle.rules.specs.declared.Refusal as R
+use Rattle.rules.specs.declared.Refusal.TheVariants as Why
+use Rattle.rules.specs.declared.Stop.{Stop}
 use Rattle.rules.specs.Lists.{below, total, indicator}
 use Rattle.rules.specs.Geometry.{work_words}
 use Rattle.rules.specs.BucketCount.{buckets_for}
@@ -31,38 +23,76 @@ pub data Said : Type 0 where
   Answer : List ℕ → Said
   Refusal : (number : ℕ) → List ℕ → Said
 
--- the document's number and values for each case of each enum
-unfoldable pub named_by : Named → List ℕ
-named_by (Bucket b) = b ∷ []
-named_by NoBucket = []
+-- document 01's number of each refusal
+abbrev pub number_of : R.Refusal → ℕ
+number_of Why.SeedBits = 1
+number_of Why.Layouts = 2
+number_of Why.SliceLen = 3
+number_of Why.LayoutBits = 4
+number_of Why.Slots = 5
+number_of Why.Buckets = 6
+number_of Why.SlicesPerBucket = 7
+number_of Why.Weights = 8
+number_of Why.Begins = 9
+number_of Why.LargeBucket = 10
+number_of Why.StrayHash = 11
+number_of Why.Table = 12
+number_of Why.Lengths = 13
+number_of Why.NoSeed = 14
+number_of Why.HoleBuffer = 15
+number_of Why.BucketSize = 16
+number_of Why.Keys = 17
+number_of Why.Form = 18
+number_of Why.TooLarge = 19
+number_of Why.Chunks = 20
+number_of Why.TableLength = 21
+number_of Why.FileShort = 22
+number_of Why.FileVersion = 23
+number_of Why.FileValue = 24
+number_of Why.FileLeftOver = 25
+number_of Why.FileRoom = 26
+number_of Why.BadSeed = 28
+number_of Why.SlotTwice = 29
+number_of Why.Bitmap = 30
+
+-- the number of the refusal that a call came back with, and 0 where it went well
+abbrev pub refused_by : {A : Type 0} → Result A R.Refusal → ℕ
+refused_by (Ok x) = 0
+refused_by (Err why) = number_of why
+
+-- the bucket that a refusal names, where it names one
+unfoldable pub named_by : Prelude.Option ℕ → List ℕ
+named_by (Some b) = b ∷ []
+named_by None = []
 
 -- placed, bumped, zero
 unfoldable pub count_values : Counts → List ℕ
 count_values c = c.placed ∷ c.bumped ∷ c.zero ∷ []
 
-unfoldable pub said_outcome : Outcome → Said
-said_outcome (Ended.Done c) = Answer (count_values c)
-said_outcome (Ended.Refused n who) = Refusal n (named_by who)
+unfoldable pub said_stop : Stop → Said
+said_stop s = Refusal (number_of s.why) (named_by s.bucket)
+
+unfoldable pub said_outcome : Result Counts Stop → Said
+said_outcome (Ok c) = Answer (count_values c)
+said_outcome (Err s) = said_stop s
 
 unfoldable pub said_sweep : SweepRecord → Said
 said_sweep r = said_outcome r.outcome
 
-unfoldable pub said_looked : Looked → Said
-said_looked Look.Bumped = Answer []
-said_looked (Look.At x) = Answer (x ∷ [])
-said_looked (Look.Refused n) = Refusal n []
+-- what a lookup says: nothing of a bumped key, else its slot
+unfoldable pub said_looked : Result (Prelude.Option ℕ) R.Refusal → Said
+said_looked (Ok None) = Answer []
+said_looked (Ok (Some x)) = Answer (x ∷ [])
+said_looked (Err why) = Refusal (number_of why) []
 
-unfoldable pub said_listed : Listed → Said
-said_listed (Hole.Holes n) = Answer (n ∷ [])
-said_listed (Hole.Refused n) = Refusal n []
+-- what a hole list and a bucket count say
+unfoldable pub said_count : Result ℕ R.Refusal → Said
+said_count (Ok n) = Answer (n ∷ [])
+said_count (Err why) = Refusal (number_of why) []
 
-unfoldable pub said_checked : Checked → Said
-said_checked Check.Fine = Answer []
-said_checked (Check.Refused n) = Refusal n []
-
-unfoldable pub said_counted : Counted → Said
-said_counted (Count.Buckets n) = Answer (n ∷ [])
-said_counted (Count.Refused n) = Refusal n []
+unfoldable pub said_checked : Result ⊤ R.Refusal → Said
+said_checked (Ok done) = Answer []
+said_checked (Err why) = Refusal (number_of why) []
 
 -- the answer where no number applies, else the refusal
 unfoldable pub unless : (number : ℕ) → Said → Said
