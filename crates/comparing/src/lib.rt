@@ -4,31 +4,24 @@
 ghost use Rattle.std.specs.Prelude.{◌≡◌};
 ghost use Rattle.comparing.specs.Tallied.{tallied};
 
-use integers::product::mul_lo;
-
-// The next decimal digit of standard input, or 10 for any other byte and at the end.
-fn digit() -> u64 {
+// The next decimal digit of standard input; none for any other byte and at the end.
+fn digit() -> Option<u64> {
     let mut byte = [0u8; 1];
     io::read_full(0, &mut byte);
-    let b = byte[0];
-    if b < 48 {
-        return 10;
+    match byte[0] {
+        b @ b'0'..=b'9' => Some(u64::from(b - b'0')),
+        _ => None,
     }
-    if 57 < b {
-        return 10;
-    }
-    (b - 48) as u64
 }
 
 // The next number of standard input: digits up to a byte that is none, modulo 2^64. Past the end it is 0.
 pub fn number() -> u64 {
     let mut n: u64 = 0;
-    for _ in 0..21u64 {
-        let d = digit();
-        if d == 10 {
+    for _ in 0..21 {
+        let Some(d) = digit() else {
             return n;
-        }
-        n = std::num::wrapping_add_u64(mul_lo(n, 10), d);
+        };
+        n = n.wrapping_mul(10).wrapping_add(d);
     }
     n
 }
@@ -57,21 +50,18 @@ fn say(told: u64, case: u64, name: &[u8], here: u64, rust: u64) {
 }
 
 // Compares our number with the Rust's, and says so of the first ten that differ.
+#[tactic(auto, unfolding(crate::specs::Tallied::tallied))]
 pub fn held(t: Tally, case: u64, name: &[u8], here: u64, rust: u64) -> Tally
     ensures { result ≡ tallied t here rust }
 {
-    let compared = std::num::wrapping_add_u64(t.compared, 1);
-    let differ = t.differ;
+    let compared = t.compared.wrapping_add(1);
     if here == rust {
-        return Tally {
-            compared: compared,
-            differ: differ,
-        };
+        return Tally { compared, ..t };
     }
-    say(differ, case, name, here, rust);
+    say(t.differ, case, name, here, rust);
     Tally {
-        compared: compared,
-        differ: std::num::wrapping_add_u64(differ, 1),
+        compared,
+        differ: t.differ.wrapping_add(1),
     }
 }
 

@@ -4,18 +4,12 @@
 ghost use Rattle.std.specs.Prelude.{◌≡◌, ◌+◌, ◌-◌, ◌*◌, ◌^◌, ◌<◌, ◌≤◌, length, get_or, take, drop};
 ghost use Rattle.groups.specs.Groups.{begin_of, size_in, Grouped};
 
-fn wide(x: u32) -> usize
-    ensures { (result ≡ x) × (result < 2 ^ 32) }
-{
-    x as usize
-}
-
 // Where bucket b's keys begin.
 pub fn begin_of(begins: &[u32], b: usize) -> usize
     requires { b < length begins.now }
     ensures { (result ≡ begin_of begins.now b) × (result < 2 ^ 32) }
 {
-    wide(begins[b])
+    begins[b] as usize
 }
 
 // How many keys bucket b has.

@@ -1,26 +1,14 @@
--- `next_power_of_two` meets its contract: the exponent is at most 63, so the shift loses no bit. Assumes nothing.
-use mathlib.Core.Path.{◌≡◌, ap, ◌∙◌}
-use Prim.Native.Nat.{ℕ, ◌^◌, ◌*◌, ◌%◌, ◌<◌}
-use native.Mathlib.Omega.{arith}
-use Rattle.integers.specs.Shifts.{one_shl}
-use Rattle.integers.specs.PowerLaws.{log_up_least, least_power_above, least_power_pos, least_power_tight}
+-- A power of two that is at least x, and whose half is below x, is the least one.
+use Rattle.std.proofs.Common.{ℕ, ◌≡◌, ◌≤◌, ◌<◌, ◌/◌, ◌^◌, max, ap, ◌∙◌, arith, pow_pos}
+use Rattle.integers.specs.PowerLaws.{log_up_is}
 use Rattle.integers.specs.Power.{least_power}
 use Rattle.integers.proofs.power.next_power_of_two.Goals as goal
-use Rattle.integers.proofs.power.next_power_of_two.Goals.{After-log2_up}
 
--- the shift is below 64
-short : (c : goal.After-log2_up) → c.log2_up.result < 64
-short c = omega (arith, c.log2_up.ensures.0, log_up_least c.args.x 63 c.requires)
-
-shifted : (c : goal.After-log2_up) → (1 * 2 ^ c.log2_up.result) % 2 ^ 64 ≡ least_power c.args.x
+least_is : (x p k : ℕ) → p ≡ 2 ^ k → x ≤ p → p / 2 < max 1 x → p ≡ least_power x
 unfolding least_power
-shifted c = one_shl c.log2_up.result (short c) ∙ ap (λ (k : ℕ). 2 ^ k) c.log2_up.ensures.0
-
-pub overflow_shl-result : goal.overflow_shl-result
-overflow_shl-result c = short (goal.at.overflow_shl-result c).After-log2_up
+least_is x p k e lo hi = e ∙ ap (λ n. 2 ^ n) (log_up_is x k (record { above = omega arith; tight = omega arith }))
 
 pub returns : goal.returns
 returns c =
-    let x : ℕ = c.args.x in
-    let e = shifted (goal.at.returns c).After-log2_up in
-    (e, omega (arith, e, least_power_pos x), omega (arith, e, least_power_above x), omega (arith, e, least_power_tight x))
+    let e = c.next_power_of_two.ensures in
+    (least_is c.args.x c.next_power_of_two.result e.power.0 e.power.1 e.lower_bound e.upper_bound, omega (arith, pow_pos e.power.0), omega arith, omega arith)
