@@ -4,12 +4,9 @@
 // 101 of those with the fixed seed.
 #![tactic(auto)]
 
-ghost use Rattle.geometry.specs.Shape.{Made};
-
 use comparing::{Tally, held, number};
-use geometry::place::{bucket_of, first, offset_of, position, slice_of};
 use geometry::settings::check_settings;
-use geometry::shape::{Geometry, geometry_of, work_words};
+use geometry::shape::Geometry;
 use rules::Settings;
 
 fn settings() -> Settings {
@@ -42,29 +39,23 @@ fn figures(g: Geometry, i: u64, t0: Tally) -> Tally {
     held(t, i, b"table entries", g.entries, number())
 }
 
-fn work(g: Geometry, i: u64, t: Tally) -> Tally
-    requires { Made g }
-{
+fn work(g: Geometry, i: u64, t: Tally) -> Tally {
     let z = number().min(4096);
-    held(t, i, b"W", work_words(g, z), number())
+    held(t, i, b"W", g.work_words(z), number())
 }
 
-fn one_first(g: Geometry, i: u64, t: Tally) -> Tally
-    requires { Made g }
-{
+fn one_first(g: Geometry, i: u64, t: Tally) -> Tally {
     let b = number().min(g.settings.buckets);
-    held(t, i, b"first", first(g, b), number())
+    held(t, i, b"first", g.first(b), number())
 }
 
-fn one_place(g: Geometry, i: u64, t0: Tally) -> Tally
-    requires { Made g }
-{
+fn one_place(g: Geometry, i: u64, t0: Tally) -> Tally {
     let h = number();
     let seed = (number() % 65536) as u16;
-    let t = held(t0, i, b"bucket", bucket_of(g, h), number());
-    let t = held(t, i, b"slice", slice_of(g, h), number());
-    let t = held(t, i, b"offset", offset_of(g, h), number());
-    held(t, i, b"position", position(g, h, seed), number())
+    let t = held(t0, i, b"bucket", g.bucket_of(h), number());
+    let t = held(t, i, b"slice", g.slice_of(h), number());
+    let t = held(t, i, b"offset", g.offset_of(h), number());
+    held(t, i, b"position", g.position(h, seed), number())
 }
 
 // Compares as many times as the number read says.
@@ -78,9 +69,7 @@ fn repeated<F: Fn(Tally) -> Tally>(t0: Tally, compare: F) -> Tally
     t
 }
 
-fn numbers(g: Geometry, i: u64, t: Tally) -> Tally
-    requires { Made g }
-{
+fn numbers(g: Geometry, i: u64, t: Tally) -> Tally {
     let t = work(g, i, figures(g, i, t));
     let t = repeated(t, |t| one_first(g, i, t));
     repeated(t, |t| one_place(g, i, t))
@@ -90,7 +79,7 @@ fn numbers(g: Geometry, i: u64, t: Tally) -> Tally
 fn case(i: u64, t0: Tally) -> Tally {
     let s = settings();
     match check_settings(s) {
-        Ok(()) => numbers(geometry_of(s), i, held(t0, i, b"refused", 0, 0)),
+        Ok(()) => numbers(Geometry::new(s), i, held(t0, i, b"refused", 0, 0)),
         Err(why) => held(t0, i, b"refused", why.number(), 0),
     }
 }

@@ -1,6 +1,6 @@
 -- A refusal is what a lookup says, and without one what it found (`looked_says`). Past the checks the geometry, in either shape, is that of the
 -- settings. Assumes nothing.
-use Rattle.std.proofs.Common.{◌≡◌, length, sym, ap, ◌∙◌, subst, arith}
+use Rattle.std.proofs.Common.{◌≡◌, length, sym, ap, ◌∙◌, arith}
 use Rattle.std.specs.Prelude.{Ok, Err}
 use Rattle.std.proofs.lemmas.Grind.{common_steps}
 use Rattle.rules.specs.declared.Refusal.TheVariants.{Lengths}
