@@ -5,7 +5,7 @@
 use Rattle.std.specs.Prelude.{◌≡◌, refl, ◌≢◌, List, ℕ, ◌+◌, ◌-◌, ◌*◌, ◌/◌, ◌%◌, ◌^◌, ◌≤◌, ◌<◌, max, length, get_or, set, take}
 use Rattle.std.proofs.Common.{sym, ap, ◌∙◌, subst, ⊎_elim, arith, mul-le-mul_right, not-suc-le-zero, length-set, get_or-set_same, get_or-set_other}
 use Rattle.std.specs.Int.Bits.{bit_or}
-use Rattle.std.proofs.lemmas.List.{take-set-le}
+use Rattle.std.proofs.lemmas.List.{get_or-map, take-set-le}
 use Rattle.std.proofs.Math.Seq.{take-set-lt}
 use Rattle.words.specs.Bit.{bit}
 use Rattle.words.specs.Cases.{same_or_not}
@@ -23,7 +23,6 @@ use Rattle.rings.specs.BlockedLaws.{begun_blocked, ring_same, added, blocked_add
 use Rattle.rings.specs.LevelLaws.{shape_level}
 use Rattle.ring_keys.specs.RingKey.{ring_key, ring_keys, packed, KeysFilled}
 use Rattle.ring_keys.specs.HashLaws.{start_le, key_ok}
-use Rattle.ring_keys.specs.LayoutLaws.{map_at}
 use Rattle.ring_keys.specs.FilledLaws.{filled_part}
 use Rattle.ring_keys.specs.FillLaws.{layouts_none, layouts_more, key_code, layouts_are, shift_small, KeysTo, keys_none, keys_more, keys_all}
 use Rattle.ring_keys.specs.Gathered.{RowReady, RowAdded, Below, HashReady, HashGathered, Ready, Gathered}
@@ -187,7 +186,7 @@ gathering_more {s} {ring} {hashes} {start} {at} {to} {i} {old} {mid} {now} shape
     word q k lk x y =
         let z : k ≡ 0 = omega arith in
         let e : to + q * 1 + 0 ≡ to + q = omega arith in
-        rw (z, e) (blocked_added (rw (z, e) at x) (rw (map_at (ring_key s start q) hashes i lt) (added_same shape old (gathering_front ring.words above order a) y)))
+        rw (z, e) (blocked_added (rw (z, e) at x) (rw (get_or-map (ring_key s start q) hashes i 0 0 lt) (added_same shape old (gathering_front ring.words above order a) y)))
 
 -- ---- what the calls ask for
 
