@@ -6,8 +6,6 @@ use Rattle.rules.specs.declared.Settings.{Settings}
 use Rattle.rules.specs.Lists.{below}
 use Rattle.rules.specs.Geometry.{work_words}
 use Rattle.rules.specs.Numbers.{first_of, lines_to7, largest_of, largest}
-use Rattle.geometry.specs.declared.shape.Geometry.{Geometry}
-use Rattle.geometry.specs.Shape.{geometry_of}
 use Rattle.checks.specs.Largest.{Largest}
 use Rattle.rules.specs.Order.{Input}
 use Rattle.rules.specs.Answers.{work_needed}
@@ -36,10 +34,10 @@ module _ (i : Input) (s : Settings) (begins : List ℕ) (same : i.settings ≡ s
   unfolding largest
   largest_same z l = l.same i begun ∙ ap (λ (t : Settings). largest_of i (below t.buckets)) (sym same)
 
-  pub work_same : (z r : ℕ) (g : Geometry) → Largest begins s.buckets z → g ≡ geometry_of s → r ≡ work_words g.settings z → r ≡ work_needed i
-  unfolding work_needed geometry_of
-  work_same z r g l e f =
+  pub work_same : (z r : ℕ) (t : Settings) → Largest begins s.buckets z → t ≡ s → r ≡ work_words t z → r ≡ work_needed i
+  unfolding work_needed
+  work_same z r t l e f =
       f
-      ∙ ap (λ (t : Geometry). work_words t.settings z) e
+      ∙ ap (λ (t : Settings). work_words t z) e
       ∙ ap (λ (t : Settings). work_words t z) (sym same)
       ∙ ap (work_words i.settings) (largest_same z l)

@@ -11,7 +11,7 @@ mod printing;
 use crate::printing::asked;
 use checks::largest_size;
 use geometry::settings::check_settings;
-use geometry::shape::{geometry_of, work_words};
+use geometry::shape::Geometry;
 use list_input::{Scan, feed, scan_ends, start};
 use list_output::refused_text;
 use rules::{Refusal, Settings};
@@ -26,7 +26,7 @@ pub fn over_work(settings: Settings, begins: &[u32]) -> bool
         return false;
     }
     let z = largest_size(begins, settings.buckets as usize) as u64;
-    z > 4096 || work_words(geometry_of(settings), z) > 8192
+    z > 4096 || Geometry::new(settings).work_words(z) > 8192
 }
 
 // What is printed at the end of the input: the scan and the numbers kept say it all. Answers how many bytes it wrote.

@@ -1,15 +1,12 @@
 -- `over_work` is the W test of 19: skipped where 1 to 7 refuse, true where a bucket has over 4,096 keys, else W against 8,192.
 -- Assumes nothing.
-use Rattle.std.proofs.Common.{◌≡◌, ◌≢◌, ◌∙◌, true, false, refl, sym, arith, rules, is_err, Result, Ok, Err}
+use Rattle.std.proofs.Common.{◌≡◌, ◌≢◌, ◌∙◌, true, false, refl, sym, arith, is_err, Result, Ok, Err}
 use Rattle.std.specs.Bool.{⊤}
 use borrow.Author.Tests.{lt-ltb}
 use Rattle.rules.specs.declared.Refusal as R
-use Rattle.rules.specs.declared.Settings.{Settings}
 use Rattle.rules.specs.Answers.{work_needed, refused_by}
 use Rattle.rules.specs.Numbers.{largest}
-use Rattle.rules.specs.Good.{Usable}
 use Rattle.rules.proofs.RefusalLaws.{number_positive}
-use Rattle.geometry.proofs.Sizes.{made}
 use Rattle.listing.specs.Limits.{work_skipped, work_tested, work_many, lines_same, largest_same, work_same}
 use Rattle.listing.proofs.over_work.Goals as goal
 
@@ -25,11 +22,6 @@ pub returns-then-is_err : goal.returns-then-is_err
 returns-then-is_err c =
     let a = c.args in
     record { is = λ i same begun. work_skipped i _ (lines_same i a.settings a.begins.now same begun _ c.check_settings.ensures.number) (some _ (sym c.if-is_err.ensures.value)) }
-
-pub work_words-requires-clause-made : goal.work_words-requires-clause-made
-work_words-requires-clause-made c =
-    let u : Usable c.args.settings = search rules in
-    rw c.geometry_of.ensures (made c.args.settings u)
 
 pub returns-then-z-gt4096 : goal.returns-then-z-gt4096
 returns-then-z-gt4096 c =
@@ -48,5 +40,5 @@ returns-else-z-gt4096 c =
     record {
       is = λ i same begun.
           work_tested i _ _ (lines_same i a.settings a.begins.now same begun _ c.check_settings.ensures.number) (none _ (sym c.if-is_err.ensures.value))
-          (work_same i a.settings a.begins.now same begun _ _ _ c.largest_size-z.ensures.0 c.geometry_of.ensures c.work_words.ensures.0);
+          (work_same i a.settings a.begins.now same begun _ _ _ c.largest_size-z.ensures.0 c.new.ensures c.work_words.ensures.0);
     }
