@@ -11,10 +11,9 @@ use rules::{Refusal, Settings};
 
 // Seeds, bitmap or scratch do not fit the settings.
 fn lent_bad(s: Settings, seeds: usize, bitmap: usize, scratch: usize) -> bool
-    requires { s.m ≤ 134217728 }
     ensures { result ≡ lent_bad s seeds bitmap scratch }
 {
-    let words = (s.m + 63) / 64;
+    let words = s.m.div_ceil(64);
     seeds as u64 != s.buckets || bitmap as u64 != words || scratch as u64 != words
 }
 

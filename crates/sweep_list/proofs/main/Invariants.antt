@@ -5,8 +5,5 @@ use mathlib.Core.Path.{◌≡◌}
 use lib.ListN.{length}
 use Rattle.sweep_list.proofs.main.Given as goal
 
-abbrev pub invariant-loop-turns : goal.invariant-loop-turns
-invariant-loop-turns l = Fed l.scan l.numbers × (length l.buffer ≡ 65536)
-
-abbrev pub decreases-loop-turns : goal.decreases-loop-turns
-decreases-loop-turns l = l.turns
+abbrev pub invariant-loop : goal.invariant-loop
+invariant-loop l = Fed l.scan l.numbers × (length l.buffer ≡ 65536)
