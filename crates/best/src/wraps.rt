@@ -6,7 +6,6 @@ ghost use Rattle.best.specs.Wraps.{Filled, with_point, points_of};
 
 use rings::Ring;
 use rings::keys::place_of;
-use words::filling::fill;
 
 // Adds key d's wrap point to the set work[up..up + count].
 fn set_point(g: Ring, work: &mut [u64], d: u64, up: usize, count: usize)
@@ -26,7 +25,7 @@ pub fn fill_wraps(g: Ring, work: &mut [u64], at: usize, size: usize, up: usize, 
     requires size_bound { (at + size ≤ up) × (up + count ≤ length work.old) × (g.n ≤ 64 * count) }
     ensures { Filled up count work.old (points_of g (part work.old at size) count size) work.new }
 {
-    fill(&mut work[up..up + count], 0);
+    work[up..up + count].fill(0);
     for i in 0..size {
         let d = work[at + i];
         set_point(g, work, d, up, count);

@@ -1,4 +1,4 @@
--- The parts that `geometry_of` computes are rule G's numbers: Q's upper half is ns / B, and its lower half the fraction that is left.
+-- The parts that `Geometry::new` computes are rule G's numbers: Q's upper half is ns / B, and its lower half the fraction that is left.
 -- Assumes nothing.
 use Rattle.std.proofs.Common.{◌≡◌, ℕ, ◌+◌, ◌-◌, ◌*◌, ◌/◌, ◌%◌, ◌^◌, ◌<◌, min, sym, ap, ◌∙◌, mod-lt, pow_pos}
 use lib.Arith.{digits_div, digits_mod}

@@ -9,7 +9,6 @@ use crate::Reader;
 use geometry::settings::check_settings;
 use integers::power::power_of_two;
 use rules::{Refusal, Settings};
-use words::filling::fill;
 
 // What was read of a file beside its seeds and holes: its settings, and how many holes it has.
 #[derive(Clone, Copy)]
@@ -150,8 +149,8 @@ pub fn read_file(bytes: &[u8], seeds: &mut [u16], holes: &mut [u32]) -> Result<L
 {
     let read = read_lent(bytes, seeds, holes);
     if read.is_err() {
-        fill(seeds, 0);
-        fill(holes, 0);
+        seeds.fill(0);
+        holes.fill(0);
     }
     read
 }

@@ -10,7 +10,6 @@ use geometry::settings::check_settings;
 use house_numbers::{group_count, put_groups};
 use integers::power::power_of_two;
 use rules::{Refusal, Settings};
-use words::filling::fill;
 
 // How many bytes the seeds take. None where one is not below the limit.
 pub fn measure_seeds(seeds: &[u16], limit: u64) -> Option<usize>
@@ -163,7 +162,7 @@ pub fn write_file(
     ensures buffer { out.new ≡ bytes_after (level_of settings seeds.now holes.now) out.old }
 {
     if let Err(why) = check_writable(settings, seeds, holes, out.len()) {
-        fill(out, 0);
+        out.fill(0);
         return Err(why);
     }
     Ok(put_file(settings, seeds, holes, out) as u64)

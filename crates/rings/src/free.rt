@@ -9,7 +9,6 @@ ghost use Rattle.rings.specs.Blocked.{Cleared, BegunFree, Own, TurnedOver, Finis
 
 use crate::Ring;
 use crate::stream::or_key;
-use words::filling::fill;
 
 // The first word of layout 0 with the barred rotation alone, which is rotation 0 where n = R.
 fn bar(g: Ring) -> u64
@@ -24,7 +23,7 @@ pub fn begin_free(g: Ring, work: &mut [u64], to: usize, layouts: usize, count: u
     ensures { BegunFree g work.old to layouts count work.new }
 {
     let words = layouts * count;
-    fill(&mut work[to..to + words], 0);
+    work[to..to + words].fill(0);
     if words != 0 {
         work[to] = bar(g);
     }

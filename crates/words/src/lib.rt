@@ -5,8 +5,6 @@ ghost use Rattle.std.specs.Prelude.{◌≡◌, ℕ, ◌*◌, ◌<◌, ◌≤◌,
 ghost use Rattle.words.specs.Map.{slot, marked, cleared};
 ghost use Rattle.words.specs.Next.{next_set};
 
-pub mod filling;
-
 // Whether slot p is marked.
 pub fn is_occupied(bits: &[u64], p: usize) -> bool
     requires { p < 64 * length bits.now }

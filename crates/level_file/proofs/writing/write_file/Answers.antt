@@ -9,7 +9,7 @@ returns-in-Err c =
     let e = c.in-Err.ensures in
     record {
       answer = write_refused (level_of a.settings a.seeds.now a.holes.now) a.out.now _ e;
-      buffer = write_zero (level_of a.settings a.seeds.now a.holes.now) a.out.now _ e _ c.fill.ensures;
+      buffer = write_zero (level_of a.settings a.seeds.now a.holes.now) a.out.now _ e _ (c.fill.ensures.after (λ y e. e));
     }
 
 pub put_file-requires : goal.put_file-requires

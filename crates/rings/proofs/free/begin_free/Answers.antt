@@ -6,4 +6,4 @@ use Rattle.rings.proofs.free.begin_free.Goals as goal
 
 pub returns-then-words-ne0 : goal.returns-then-words-ne0
 returns-then-words-ne0 c =
-    begun (omega arith) c.requires c.bar.ensures (put_cleared _ _ _ _ _ (omega arith) c.requires c.fill.ensures)
+    begun (omega arith) c.requires c.bar.ensures (put_cleared _ _ _ _ _ (omega arith) c.requires (c.fill.ensures.after (λ y e. e)))
