@@ -6,6 +6,7 @@ ghost use Rattle.house_numbers.specs.Encode.{encoded};
 ghost use Rattle.level_file.specs.Format.{level_of, settings_numbers, gaps_from, bytes_of, file_of, not_below, all_but, holes_fine, filled};
 ghost use Rattle.level_file.specs.Writing.{write_number, said_written, write_answer, bytes_after, measured, Climbs};
 
+use crate::VERSION;
 use geometry::settings::check_settings;
 use house_numbers::{group_count, put_groups};
 use integers::power::power_of_two;
@@ -59,7 +60,7 @@ fn head_numbers(settings: Settings) -> [u64; 6]
         sb,
         buckets,
     } = settings;
-    [1, m, log2_slice_len, ll, sb, buckets]
+    [VERSION, m, log2_slice_len, ll, sb, buckets]
 }
 
 // The bytes of the version, the settings and the hole count.
