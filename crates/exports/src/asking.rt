@@ -1,7 +1,6 @@
 // Where a finished level has its keys.
 ghost use Rattle.std.specs.Prelude.{◌≡◌, map, length};
 ghost use Rattle.rules.specs.Answers.{refused_by, lookup_answer};
-ghost use Rattle.geometry.specs.Shape.{Made};
 ghost use Rattle.exports.specs.Level.{settings_of};
 ghost use Rattle.exports.specs.Told.{number_told, slot_told};
 ghost use Rattle.exports.specs.Positions.{slot_of, positions_number, positions_slots};
@@ -9,8 +8,7 @@ ghost use Rattle.exports.specs.Positions.{slot_of, positions_number, positions_s
 use crate::level::settings_of;
 use crate::telling::number;
 use geometry::settings::check_to_6;
-use geometry::shape::{Geometry, geometry_of};
-use geometry::usual::{literal, usual};
+use geometry::shape::Geometry;
 use lookup::{lookup, lookup_in};
 use rules::{Refusal, Settings};
 
@@ -42,8 +40,7 @@ pub fn phastr_lookup(
 
 // The slot of a hash, or BUMPED.
 fn slot_in(g: Geometry, seeds: &[u16], hash: u64) -> u64
-    requires made { Made g }
-    requires seeds_len { length seeds.now ≡ g.settings.buckets }
+    requires { length seeds.now ≡ g.settings.buckets }
     ensures { result ≡ slot_of g.settings seeds.now hash }
 {
     lookup_in(g, seeds, hash).unwrap_or(BUMPED)
@@ -51,7 +48,6 @@ fn slot_in(g: Geometry, seeds: &[u16], hash: u64) -> u64
 
 // The slots of the hashes, each into its place.
 fn fill_in(g: Geometry, seeds: &[u16], hashes: &[u64], slots: &mut [u64])
-    requires made { Made g }
     requires seeds_len { length seeds.now ≡ g.settings.buckets }
     requires slots_len { length slots.old ≡ length hashes.now }
     ensures { slots.new ≡ map (slot_of g.settings seeds.now) hashes.now }
@@ -63,13 +59,12 @@ fn fill_in(g: Geometry, seeds: &[u16], hashes: &[u64], slots: &mut [u64])
 
 // The same, with the numbers of the default shape as literals where the geometry has it.
 fn fill_slots(g: Geometry, seeds: &[u16], hashes: &[u64], slots: &mut [u64])
-    requires made { Made g }
     requires seeds_len { length seeds.now ≡ g.settings.buckets }
     requires slots_len { length slots.old ≡ length hashes.now }
     ensures { slots.new ≡ map (slot_of g.settings seeds.now) hashes.now }
 {
-    if usual(g) {
-        fill_in(literal(g), seeds, hashes, slots);
+    if g.is_usual() {
+        fill_in(g.literal(), seeds, hashes, slots);
     } else {
         fill_in(g, seeds, hashes, slots);
     }
@@ -84,7 +79,7 @@ fn positions(s: Settings, seeds: &[u16], hashes: &[u64], slots: &mut [u64]) -> R
     if seeds.len() as u64 != s.buckets || slots.len() != hashes.len() {
         return Err(Refusal::Lengths);
     }
-    fill_slots(geometry_of(s), seeds, hashes, slots);
+    fill_slots(Geometry::new(s), seeds, hashes, slots);
     Ok(())
 }
 

@@ -13,7 +13,7 @@ use crate::level::settings_of;
 use crate::telling::{number, tell};
 use geometry::count::bucket_count;
 use geometry::settings::check_settings;
-use geometry::shape::{geometry_of, work_words};
+use geometry::shape::Geometry;
 use log_table::house;
 use log_table::making::make_logs;
 use rules::{Refusal, Settings};
@@ -35,8 +35,8 @@ fn wanted(s: Settings, z: u64) -> Result<[u64; 3], Refusal>
     if 4096 < z {
         return Err(Refusal::LargeBucket);
     }
-    let g = geometry_of(s);
-    Ok([work_words(g, z), g.entries, (s.m + 63) / 64])
+    let g = Geometry::new(s);
+    Ok([g.work_words(z), g.entries, (s.m + 63) / 64])
 }
 
 // What a sweep of a largest bucket of z keys wants lent. 0: sizes has the work words W, the table's entries and the

@@ -1,6 +1,6 @@
 -- Each return is one case of the lines 1 to 6 and 13; past them the settings are usable, the seeds B long and the slots as many as the hashes, which the
 -- lookups ask.
-use mathlib.Core.Path.{◌≡◌, sym, ap, ◌∙◌, subst}
+use mathlib.Core.Path.{◌≡◌, sym, ap, ◌∙◌}
 use mathlib.Core.Bool.{not, ◌||◌}
 use mathlib.Core.List.{List, map}
 use Prim.Native.Nat.{ℕ}
@@ -15,11 +15,8 @@ use Rattle.rules.specs.Answers.{number_of}
 use Rattle.rules.proofs.CheckLaws.{numbered_6}
 use Rattle.rules.proofs.RefusalLaws.{number_positive}
 use Rattle.rules.proofs.Tests.{or_left, or_right, not_or, not_not, eq→eqb, neq→neqb}
-use Rattle.geometry.specs.Shape.{Made}
-use Rattle.geometry.proofs.Sizes.{made}
 use Rattle.exports.specs.Positions.{slot_of, lent_wrong, positions_lines, positions_number, positions_slots}
 use Rattle.exports.proofs.Closing.{earlier, last, done}
-use Rattle.exports.proofs.Fields.{settings_are}
 use Rattle.exports.proofs.asking.positions.Goals as goal
 use Rattle.exports.proofs.asking.positions.Goals.{then-seeds-s-via-then-seeds-s, then-seeds-s-via-else-seeds-s+then-slots-hashes}
 
@@ -53,8 +50,7 @@ returns-then-seeds-s c =
 pub fill_slots-requires : goal.fill_slots-requires
 fill_slots-requires c =
     record {
-      made = subst Made (sym c.geometry_of.ensures) (made c.args.s c.in_ok-check_to_6.ensures.usable);
-      seeds_len = c.if-seeds-s.false ∙ ap (λ (x : Settings). x.buckets) (sym (settings_are c.geometry_of.result c.args.s c.geometry_of.ensures));
+      seeds_len = c.if-seeds-s.false ∙ ap (λ (x : Settings). x.buckets) (sym c.new.ensures);
       slots_len = c.if-slots-hashes.false;
     }
 
@@ -66,7 +62,7 @@ returns c =
     (not_or (not (eqb (length a.seeds.now) a.s.buckets)) (not (eqb (length a.slots.now) (length a.hashes.now)))
     (not_not (eqb (length a.seeds.now) a.s.buckets) (eq→eqb (length a.seeds.now) a.s.buckets c.if-seeds-s.false))
     (not_not (eqb (length a.slots.now) (length a.hashes.now)) (eq→eqb (length a.slots.now) (length a.hashes.now) c.if-slots-hashes.false))) in
-    let same = ap (λ (x : Settings). map (slot_of x a.seeds.now) a.hashes.now) (settings_are c.geometry_of.result a.s c.geometry_of.ensures) in
+    let same = ap (λ (x : Settings). map (slot_of x a.seeds.now) a.hashes.now) c.new.ensures in
     record {
       number = d.0;
       found = c.fill_slots.ensures ∙ same ∙ d.1;

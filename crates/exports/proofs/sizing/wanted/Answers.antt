@@ -1,5 +1,5 @@
 -- The lines are those of the settings, 1 to 7, and 10. Past them the geometry is that of the settings. Assumes nothing.
-use Rattle.std.proofs.Common.{◌≡◌, ℕ, [], ◌∷◌, cond, ltb, sym, ap, ap₂, ◌∙◌, subst, arith}
+use Rattle.std.proofs.Common.{◌≡◌, ℕ, [], ◌∷◌, cond, ltb, sym, ap, ap₂, ◌∙◌, arith}
 use Rattle.std.proofs.lemmas.Grind.{common_steps}
 use Rattle.rules.specs.declared.Settings.{Settings}
 use Rattle.rules.specs.Geometry.{work_words}
@@ -7,10 +7,8 @@ use Rattle.rules.specs.Numbers.{first_of, line, lines_to7, bitmap_words}
 use Rattle.rules.proofs.CheckLaws.{numbered_7}
 use Rattle.rules.proofs.Lines.{first_append_zero}
 use Rattle.rules.proofs.RefusalLaws.{refused_first}
-use Rattle.geometry.specs.Shape.{Made}
-use Rattle.geometry.proofs.Sizes.{made}
 use Rattle.exports.specs.Sizes.{sizes_lines, sizes_number}
-use Rattle.exports.proofs.Fields.{settings_are, entries_are}
+use Rattle.exports.proofs.Fields.{entries_are}
 use Rattle.exports.proofs.sizing.wanted.Goals as goal
 
 -- none of 1 to 7 applies
@@ -27,15 +25,12 @@ returns-in_err-check_settings-clause-number c =
 pub returns-then-z-gt4096-clause-number : goal.returns-then-z-gt4096-clause-number
 returns-then-z-gt4096-clause-number c = grind (arith, common_steps, rest c.args.s c.args.z c.in_ok-check_settings.ensures.number)
 
-pub work_words-requires-clause-made : goal.work_words-requires-clause-made
-work_words-requires-clause-made c = subst Made (sym c.geometry_of-g.ensures) (made c.args.s c.in_ok-check_settings.ensures.usable)
-
 pub returns-clause-number : goal.returns-clause-number
 returns-clause-number c = grind (arith, common_steps, rest c.args.s c.args.z c.in_ok-check_settings.ensures.number)
 
 pub returns-clause-sizes : goal.returns-clause-sizes
 returns-clause-sizes c =
     let s = c.args.s in
-    let w = c.work_words.ensures.0 ∙ ap (λ (x : Settings). work_words x c.args.z) (settings_are c.geometry_of-g.result s c.geometry_of-g.ensures) in
-    let e = entries_are c.geometry_of-g.result s c.geometry_of-g.ensures in
+    let w = c.work_words.ensures.0 ∙ ap (λ (x : Settings). work_words x c.args.z) c.new-g.ensures in
+    let e = entries_are c.new-g.result s c.new-g.ensures in
     ap₂ (λ (x y : ℕ). x ∷ y ∷ bitmap_words s.m ∷ []) w e
