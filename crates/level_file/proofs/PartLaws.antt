@@ -11,7 +11,7 @@ use Rattle.std.specs.Prelude.{Result, Ok, Err, is_err}
 use Rattle.rules.specs.declared.Settings.{Settings}
 use Rattle.rules.specs.declared.Refusal as R
 use Rattle.rules.specs.Numbers.{first_of, lines_to7}
-use Rattle.rules.specs.Answers.{Answer, Refusal, number_of}
+use Rattle.rules.specs.Answers.{Answer, number_of}
 use Rattle.rules.specs.Good.{Good}
 use Rattle.rules.proofs.CheckLaws.{passes_7}
 use Rattle.level_file.specs.declared.reading.Level as Told

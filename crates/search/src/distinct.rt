@@ -9,8 +9,8 @@ ghost use Rattle.search.specs.Rows.{Found};
 ghost use Rattle.search.specs.Distinct.{is_distinct, better_distinct, best_distinct, KeyRow, FreeRow, AllRows};
 
 use crate::look::found;
-use best::Best;
 use best::price::cost;
+use best::{Best, NOTHING};
 use rings::Ring;
 use rings::place::fits;
 
@@ -107,11 +107,7 @@ pub fn best_distinct(
     requires { AllRows g table.now work.old at size start to count layouts }
     ensures { Found result (best_distinct g table.now work.old at size start to count layouts) × (work.new ≡ work.old) }
 {
-    let mut best = Best {
-        cost: u64::MAX,
-        r: 0,
-        j: 0,
-    };
+    let mut best = NOTHING;
     for r in 0..layouts {
         let a = at + r * size;
         let f = to + r * count;

@@ -7,9 +7,9 @@ ghost use Rattle.best.specs.Kept.{Kept};
 ghost use Rattle.best.specs.Looking.{Looking};
 ghost use Rattle.search.specs.Rows.{FreeWords, Found};
 
-use best::Best;
 use best::all::best_all;
 use best::many::best_many;
+use best::{Best, NOTHING};
 use rings::Ring;
 
 // How many words hold the free bits of a layout.
@@ -27,7 +27,7 @@ const FEW: u64 = 32;
 pub fn found(best: Best) -> Option<Best>
     ensures { Found result best }
 {
-    if best.cost == u64::MAX {
+    if best.cost == NOTHING.cost {
         None
     } else {
         Some(best)

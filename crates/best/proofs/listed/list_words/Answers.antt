@@ -3,20 +3,11 @@ use native.Mathlib.Omega.{arith}
 use lib.ListN.{length-set}
 use Rattle.std.proofs.Common.{◌∙◌, ◌+◌, not, eqb, get_or}
 use Rattle.best.proofs.Stored.{some_test, byte_small}
-use Rattle.best.proofs.ListLaws.{to_none, to_room, to_more, to_end}
+use Rattle.best.proofs.ListLaws.{to_none, to_room, to_more}
 use Rattle.best.proofs.listed.list_words.Goals as goal
 
 pub loop-i-init : goal.loop-i-init
 loop-i-init c = to_none _ _ _ _
-
-pub overflow_add-f : goal.overflow_add-f
-overflow_add-f c = let r = to_room c.loop-i.invariant c.requires.0 c.requires.1 c.loop-i-test.true in omega (arith, r.2)
-
-pub offset_bounds-work-to : goal.offset_bounds-work-to
-offset_bounds-work-to c = let r = to_room c.loop-i.invariant c.requires.0 c.requires.1 c.loop-i-test.true in omega (arith, r.2)
-
-pub bounds-work-to : goal.bounds-work-to
-bounds-work-to c = let r = to_room c.loop-i.invariant c.requires.0 c.requires.1 c.loop-i-test.true in omega (arith, r.2)
 
 pub offset_bounds-work-c : goal.offset_bounds-work-c
 offset_bounds-work-c c = let r = to_room c.loop-i.invariant c.requires.0 c.requires.1 c.loop-i-test.true in omega (arith, r.1)
@@ -40,6 +31,3 @@ overflow_add-c c =
 
 pub loop-i-preserved : goal.loop-i-preserved
 loop-i-preserved c = to_more c.loop-i.invariant c.requires.0 c.requires.1 c.loop-i-test.true (c.from.ensures ∙ some_test _)
-
-pub returns : goal.returns
-returns c = (to_end c.loop-i.invariant c.requires.0 c.requires.1 c.loop-i-test.false, c.loop-i.invariant.kept)

@@ -4,27 +4,11 @@ use mathlib.Core.Path.{◌≡◌, sym, ◌∙◌}
 use Prim.Native.Nat.{◌-◌, ◌*◌, ◌%◌, ◌^◌}
 use native.Mathlib.Omega.{arith}
 use lib.ListN.{length}
-use Rattle.rings.specs.RingLaws.{n_pos}
-use Rattle.best.specs.PriceLaws.{sum_none, sum_more, sum_cost, sum_fits, code_fits, code_in}
+use Rattle.best.specs.PriceLaws.{sum_none, sum_more, sum_cost}
 use Rattle.best.proofs.price.cost.Goals as goal
-
-pub overflow_sub-mask : goal.overflow_sub-mask
-overflow_sub-mask c = n_pos c.args.g c.requires.shape
 
 pub loop-d-init : goal.loop-d-init
 loop-d-init c = (sym (sum_none _ _ _ _), omega arith)
-
-pub overflow_add-e : goal.overflow_add-e
-overflow_add-e c = record { fits = sum_fits c.args.g c.requires.shape c.args.table.now c.args.keys.now c.args.j c.requires.j_bound c.requires.prices c.loop-d.d-index c.loop-d-test.true }
-
-pub overflow_add-e-in-loop-d : goal.overflow_add-e-in-loop-d
-overflow_add-e-in-loop-d c = record { fits = code_fits c.args.g c.requires.shape c.args.table.now c.args.keys.now c.args.j c.requires.j_bound c.requires.prices c.loop-d.d-index c.loop-d-test.true }
-
-pub offset_bounds-table-e : goal.offset_bounds-table-e
-offset_bounds-table-e c = let l = code_in c.args.g c.requires.shape c.args.table.now c.args.keys.now c.args.j c.requires.j_bound c.requires.prices c.loop-d.d-index c.loop-d-test.true in omega (arith, l)
-
-pub bounds-table-e : goal.bounds-table-e
-bounds-table-e c = code_in c.args.g c.requires.shape c.args.table.now c.args.keys.now c.args.j c.requires.j_bound c.requires.prices c.loop-d.d-index c.loop-d-test.true
 
 pub loop-d-preserved : goal.loop-d-preserved
 loop-d-preserved c = (

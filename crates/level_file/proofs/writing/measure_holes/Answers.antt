@@ -1,6 +1,6 @@
 -- `measure_holes`: as `measure_seeds`, with the hole before and the least difference; holes that rise below m are at most m, so the sum fits. Assumes nothing.
 use Rattle.level_file.proofs.PutLaws.{gaps_next, gaps_all}
-use Rattle.level_file.proofs.MeasureLaws.{measuring_start, measuring_bad, measuring_step, measuring_done, hole_rises, hole_low, hole_high, holes_end}
+use Rattle.level_file.proofs.MeasureLaws.{measuring_bad, measuring_step, measuring_done, hole_rises, hole_low, hole_high, holes_end}
 use Rattle.house_numbers.specs.EncodeLaws.{length_ten}
 use lib.ListN.{get_or}
 use mathlib.Core.Path.{refl, ap}
@@ -8,9 +8,6 @@ use native.Mathlib.Omega.{arith}
 use Prim.Native.Nat.{ℕ, ◌+◌, ◌-◌}
 use Rattle.level_file.proofs.writing.measure_holes.Goals as goal
 use Rattle.level_file.proofs.writing.measure_holes.Goals.{then-hole-before-via-then-hole-before, then-hole-before-via-else-hole-before+then-hole-m}
-
-pub loop-hole-init : goal.loop-hole-init
-loop-hole-init c = (measuring_start _ _, omega arith, omega arith, omega arith, omega arith)
 
 pub returns-then-hole-before : goal.returns-then-hole-before
 returns-then-hole-before c =

@@ -1,8 +1,8 @@
 -- `measure_holes`: as `measure_seeds`, with the hole before and the least difference; holes that rise below m are at most m, so the sum fits. Assumes nothing.
 use Rattle.level_file.proofs.MeasureLaws.{Measuring}
 use Rattle.level_file.specs.Format.{gaps_from, holes_fine}
-use Prim.Native.Nat.{◌+◌, ◌-◌, ◌*◌, ◌≤◌}
-use lib.ListN.{length, drop}
+use Prim.Native.Nat.{◌+◌, ◌*◌, ◌≤◌}
+use lib.ListN.{drop}
 use Rattle.level_file.proofs.writing.measure_holes.Given as goal
 
 abbrev pub invariant-loop-hole : goal.invariant-loop-hole

@@ -1,15 +1,12 @@
 -- `measure_seeds`: what is told of the seeds is told of those that are left (`Measuring`). Assumes nothing.
 use Rattle.level_file.proofs.PutLaws.{drop_as, drop_all}
-use Rattle.level_file.proofs.MeasureLaws.{measuring_start, measuring_bad, measuring_step, measuring_done, seeds_low, seeds_high, seeds_end}
+use Rattle.level_file.proofs.MeasureLaws.{measuring_bad, measuring_step, measuring_done, seeds_low, seeds_high, seeds_end}
 use Rattle.house_numbers.specs.EncodeLaws.{length_ten}
 use lib.ListN.{get_or}
 use mathlib.Core.Path.{refl, ap}
 use native.Mathlib.Omega.{arith}
 use Prim.Native.Nat.{ℕ, ◌+◌}
 use Rattle.level_file.proofs.writing.measure_seeds.Goals as goal
-
-pub loop-seed-init : goal.loop-seed-init
-loop-seed-init c = (measuring_start _ _, omega arith)
 
 pub returns-then-seed-limit : goal.returns-then-seed-limit
 returns-then-seed-limit c = measuring_bad _ _ _ _ _ c.loop-seed.invariant.0 (seeds_high _ _ _ _ refl c.loop-seed-test.true c.if-seed-limit.true)

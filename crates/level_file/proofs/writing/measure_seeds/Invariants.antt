@@ -1,8 +1,8 @@
 -- `measure_seeds`: what is told of the seeds is told of those that are left (`Measuring`). Assumes nothing.
 use Rattle.level_file.proofs.MeasureLaws.{Measuring}
 use Rattle.level_file.specs.Format.{not_below, all_but}
-use Prim.Native.Nat.{◌-◌, ◌*◌, ◌≤◌}
-use lib.ListN.{length, drop}
+use Prim.Native.Nat.{◌*◌, ◌≤◌}
+use lib.ListN.{drop}
 use Rattle.level_file.proofs.writing.measure_seeds.Given as goal
 
 abbrev pub invariant-loop-seed : goal.invariant-loop-seed

@@ -2,8 +2,7 @@
 use Rattle.level_file.proofs.PutLaws.{Putting}
 use Rattle.level_file.specs.Format.{gaps_from}
 use Rattle.level_file.specs.Writing.{Climbs}
-use Prim.Native.Nat.{◌-◌, ◌≤◌}
-use lib.ListN.{length, drop}
+use lib.ListN.{drop}
 use Rattle.level_file.proofs.writing.put_holes.Given as goal
 
 abbrev pub invariant-loop-hole : goal.invariant-loop-hole

@@ -1,7 +1,6 @@
 -- `put_seeds`: what is left from the present place on (`Putting`). Assumes nothing.
 use Rattle.level_file.proofs.PutLaws.{Putting}
-use Prim.Native.Nat.{◌-◌, ◌≤◌}
-use lib.ListN.{length, drop}
+use lib.ListN.{drop}
 use Rattle.level_file.proofs.writing.put_seeds.Given as goal
 
 abbrev pub invariant-loop-seed : goal.invariant-loop-seed

@@ -1,31 +1,10 @@
 -- The rotation is priced, and where it costs less it is tried. A trial of slots that are unused tells whether two of them are one, and is taken back.
 -- Assumes nothing.
 use mathlib.Core.Path.{refl}
-use native.Mathlib.Omega.{arith}
-use Rattle.rings.specs.RingLaws.{n_le}
 use Rattle.rings.specs.Parts.{part_range}
 use Rattle.search.specs.DistinctLaws.{step_dear, step_fits, step_meets}
 use Rattle.search.proofs.distinct.better_distinct.Goals as goal
 use Rattle.search.proofs.distinct.better_distinct.Goals.{else-c-best-via-then-c-best+else-fits, else-c-best-via-else-c-best}
-
-pub cost-c-requires : goal.cost-c-requires
-cost-c-requires c =
-    let k = c.requires.key_row in
-    record {
-      shape = k.shape;
-      prices = rw (part_range c.args.work.now c.args.a c.args.size) k.prices;
-      j_bound = omega (arith, n_le c.args.g k.shape);
-    }
-
-pub fits-requires : goal.fits-requires
-fits-requires c =
-    let k = c.requires.key_row in
-    record {
-      shape = k.shape;
-      words_le_at = (k.above, k.room);
-      keys = k.keys;
-      start_bound = (k.begin, omega (arith, n_le c.args.g k.shape));
-    }
 
 pub returns-then-fits : goal.returns-then-fits
 returns-then-fits c = let e = rw (part_range c.args.work.now c.args.a c.args.size) at c.cost-c.ensures.0 in

@@ -9,10 +9,6 @@ use Rattle.search.proofs.distinct.distinct_layout.Goals as goal
 pub loop-w-init : goal.loop-w-init
 loop-w-init c = (refl, sym (from_none _ _ _ _ _))
 
-pub distinct_word-best-requires : goal.distinct_word-best-requires
-distinct_word-best-requires c =
-    rw c.loop-w.invariant.0 (record { key_row = c.requires.key_row; free_row = c.requires.free_row; w_lt_count = c.loop-w-test.true })
-
 pub loop-w-preserved : goal.loop-w-preserved
 loop-w-preserved c =
     (c.distinct_word-best.ensures.1 ∙ c.loop-w.invariant.0, word_more _ _ _ _ _ c.loop-w.invariant.1 (rw c.loop-w.invariant.0 at c.distinct_word-best.ensures.0))

@@ -1,31 +1,21 @@
 -- One pass fills in ring keys and free words, with literals where these are the geometry's own numbers; where a layout has more than one free word the ring keys
 -- are filled in first, and the free words are then those of the ring keys. Assumes nothing.
-use Rattle.std.proofs.Common.{sym, ◌∙◌, arith}
-use Rattle.rules.proofs.Tests.{of_true}
-use Rattle.geometry.proofs.UsualLaws.{usual_told}
+use Rattle.std.proofs.Common.{arith}
 use Rattle.search.specs.Usual.{usual_ring}
 use Rattle.search.specs.Preparing.{ring_shape, layouts_few, keys_room, keys_known, gathered, one_ready, one_gathered, literal_ready, literal_gathered}
 use Rattle.search.proofs.prepare.prepare.Goals as goal
 
-pub literal-requires : goal.literal-requires
-literal-requires c =
-    let p = c.requires in
-    record {
-      made = p.made;
-      usual = usual_told c.args.g (of_true (sym c.usual.ensures ∙ c.if-usual.true));
-    }
-
 pub literal_ring-requires : goal.literal_ring-requires
-literal_ring-requires c = let p = c.requires in usual_ring p.made (usual_told c.args.g (of_true (sym c.usual.ensures ∙ c.if-usual.true))) p.level
+literal_ring-requires c = let p = c.requires in usual_ring p.made (c.usual.ensures.told c.if-usual.true) p.level
 
 pub gather-requires : goal.gather-requires
 gather-requires c =
-    let whole = literal_ready c.requires (usual_told c.args.g (of_true (sym c.usual.ensures ∙ c.if-usual.true))) c.literal.ensures c.literal_ring.ensures in
+    let whole = literal_ready c.requires (c.usual.ensures.told c.if-usual.true) c.literal.ensures c.literal_ring.ensures in
     record { ready = whole.0; n_value = λ _. whole.1 }
 
 pub returns-then-usual : goal.returns-then-usual
 returns-then-usual c =
-    literal_gathered c.requires (usual_told c.args.g (of_true (sym c.usual.ensures ∙ c.if-usual.true))) c.literal.ensures c.literal_ring.ensures c.gather.ensures
+    literal_gathered c.requires (c.usual.ensures.told c.if-usual.true) c.literal.ensures c.literal_ring.ensures c.gather.ensures
 
 pub gather-requires-then-ring-le64-clause-ready : goal.gather-requires-then-ring-le64-clause-ready
 gather-requires-then-ring-le64-clause-ready c = one_ready c.requires c.if-ring-le64.true

@@ -1,17 +1,15 @@
 use borrow.Author.Tests.{eq-eqb, ne_eqb}
 use mathlib.Core.Bool.{Bool, true, false, cond}
 use mathlib.Core.List.{List}
-use mathlib.Core.Path.{◌≡◌, sym, ap, ap₂, ◌∙◌, subst}
-use Prim.Native.Nat.{ℕ, ◌+◌, ◌-◌, ◌≤◌}
+use mathlib.Core.Path.{◌≡◌, sym, ap, ap₂, ◌∙◌}
+use Prim.Native.Nat.{ℕ, ◌+◌, ◌-◌}
 use native.Mathlib.Omega.{arith}
 use lib.IntN.{ℤ}
 use lib.Signed.{lt_z}
 use mir.Syntax.{w64}
 use mir.Val.{to_z, of_z}
 use mir.Facts.{to_z-of_z}
-use Rattle.groups.specs.Groups.{size_in}
 use Rattle.window.specs.Large.{tell, key_in, first_of}
-use Rattle.window.proofs.Sizes.{fewer}
 use Rattle.window.proofs.large.first_of.Goals as goal
 use Rattle.window.proofs.large.first_of.Goals.{After-key_of-l}
 
@@ -35,14 +33,6 @@ x_told begins table large x b t e q =
     let y : large - 1 ≡ x = omega arith in
     ap (cond t (b + 1)) (sym e)
     ∙ one_told begins table large b t (λ z. absurd (omega arith)) (ap (λ (v : ℕ). lt_z (key_in begins table v) (key_in begins table b)) y ∙ q)
-
-pub key_of-k-requires : goal.key_of-k-requires
-key_of-k-requires c =
-    let e = ap tell c.in-Some.is in
-    record {
-      measured = fewer c.requires.measured (c.in-Some.x + 1) (omega (arith, c.requires.told.high, e));
-      bound = subst (λ (n : ℕ). 64 ≤ size_in c.args.begins.now n) (omega (arith, e)) (c.requires.told.big (omega (arith, e)));
-    }
 
 -- the keys as the test reads them
 tested : (c : goal.After-key_of-l)
