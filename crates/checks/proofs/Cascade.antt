@@ -2,35 +2,37 @@
 use mathlib.Core.Path.{◌≡◌, refl, sym, ap, ◌∙◌}
 use mathlib.Core.Bool.{Bool, true, false, not, cond}
 use mathlib.Core.List.{List, [], ◌∷◌, ◌++◌}
+use lib.IntN.{ℤ}
 use Prim.Native.Nat.{ℕ, zero, suc, ◌+◌, ◌-◌, ◌<◌, ◌≤◌}
 use native.Mathlib.Omega.{arith}
 use native.Mathlib.Nat.{le_refl, le_trans}
 use lib.Dec.{T, leb, eqb, eqb→eq}
 use lib.ListN.{length, get_or}
-use borrow.Author.Tests.{le-leb, lt-leb}
+use borrow.Author.Tests.{le-leb, lt-leb, ne_eqb}
 use Rattle.words.specs.Cases.{lt_or_ge}
-use mathlib.Core.Logic.{◌≢◌, ⊎_elim}
+use mathlib.Core.Logic.{⊎_elim, ◌≢◌}
+use Rattle.rules.specs.declared.Refusal as R
+use Rattle.rules.specs.declared.Settings.{Settings}
 use Rattle.rules.specs.declared.How.{How}
 use Rattle.rules.specs.Lists.{every, below}
 use Rattle.rules.specs.Geometry.{entries}
-use Rattle.rules.specs.Order.{Input, size_of}
-use Rattle.rules.specs.Numbers.{Lent, first_of, moderate, rising, begins_bad, table_bad, small_bucket, all_home, largest, largest_of, lines_to7, line8, line9, line10, line11, line12, line13, line20, sweep_lines}
-use Rattle.rules.specs.Answers.{sweep_number, work_needed}
-use Rattle.rules.proofs.Tests.{is_true, not_or_left, not_or_right, of_not_not}
+use Rattle.rules.specs.Order.{Input, input_of, size_of, keys_of}
+use Rattle.rules.specs.Numbers.{Lent, first_of, moderate, rising, begins_bad, table_bad, small_bucket, is_home, all_home, largest, largest_of, lines_to7, line8, line9, line10, line11, line12, line13, line20, sweep_lines}
+use Rattle.rules.specs.Answers.{number_of, sweep_number, work_needed}
+use Rattle.rules.proofs.Tests.{not_or_left, not_or_right, of_not_not}
 use Rattle.rules.proofs.InputLaws.{rising_steps}
-use Rattle.rules.proofs.Lines.{Numbered, first_append_zero, first_append_some}
+use Rattle.rules.proofs.Lines.{Numbered, first_append_zero}
+use Rattle.rules.proofs.RefusalLaws.{refused_first}
 use Rattle.rules.proofs.CheckLaws.{numbered_7}
 use Rattle.checks.specs.Homes.{Begun}
-use Rattle.checks.specs.Verdicts.{input_lines, lent_bad}
+use Rattle.checks.specs.declared.Room.{Room}
+use Rattle.checks.specs.Verdicts.{RoomFor, group_lines, input_lines, lent_bad}
 use Rattle.checks.proofs.Every.{never}
 
 -- ---- the tests of the lines 8 to 12
 module _ (i : Input) where
   abbrev pub test8 : Bool
   test8 = not (every moderate i.weights)
-
-  abbrev pub test9 : Bool
-  test9 = begins_bad i.begins i.settings.buckets (length i.hashes)
 
   abbrev pub test10 : Bool
   test10 = not (every (small_bucket i) (below i.settings.buckets))
@@ -63,60 +65,51 @@ module _ (i : Input) where
   unfolding largest
   many_keys h = ap not (large_by (below i.settings.buckets) h)
 
-abbrev pub test20 : How → Bool
-test20 how = eqb how.chunks 0
+-- the lines 9 to 11 read neither weights nor table
+pub bare : (s : Settings) (weights : List ℤ) (hashes begins table : List ℕ) → first_of (group_lines (input_of s [] hashes begins [])) ≡ first_of (group_lines (input_of s weights hashes begins table))
+unfolding line9 line10 line11 small_bucket all_home is_home size_of keys_of
+bare s weights hashes begins table = refl
 
--- ---- the first of the lines 8, 20 and 9 to 12
-module _ (how : How) (i : Input) where
-  cascade : first_of (input_lines how i) ≡ cond (test8 i) 8 (cond (test20 how) 20 (cond (test9 i) 9 (cond (test10 i) 10 (cond (test11 i) 11 (cond (test12 i) 12 0)))))
-  unfolding first_of line8 line9 line10 line11 line12 line20
-  cascade = refl
+-- ---- the lines after 8 and 20
+module _ (how : How) (i : Input) (e8 : false ≡ test8 i) (e20 : how.chunks ≢ 0) where
+  late : first_of (input_lines how i) ≡ first_of (group_lines i ++ line12 i ∷ [])
+  unfolding first_of line8 line20
+  late = rw (sym e8, ne_eqb how.chunks 0 e20) refl
 
-  pub is_8 : test8 i ≡ true → 8 ≡ first_of (input_lines how i)
-  is_8 e8 = sym (cascade ∙ (rw e8 refl))
+  -- one of 9 to 11 applies
+  pub refused_11 : (why : R.Refusal) → number_of why ≡ first_of (group_lines i) → number_of why ≡ first_of (input_lines how i)
+  refused_11 why e = refused_first (group_lines i) (line12 i ∷ []) why e ∙ sym late
 
-  pub is_20 : test8 i ≡ false → test20 how ≡ true → 20 ≡ first_of (input_lines how i)
-  is_20 e8 e20 = sym (cascade ∙ (rw (e8, e20) refl))
+  numbered_11 : Numbered (group_lines i)
+  unfolding line9 line10 line11
+  numbered_11 = tt
 
-  pub is_9 : test8 i ≡ false → test20 how ≡ false → test9 i ≡ true → 9 ≡ first_of (input_lines how i)
-  is_9 e8 e20 e9 = sym (cascade ∙ (rw (e8, e20, e9) refl))
+  -- none of them does, so that 12 decides
+  pub twelfth : 0 ≡ first_of (group_lines i) → (t : Bool) → t ≡ test12 i → cond t 12 0 ≡ first_of (input_lines how i)
+  unfolding first_of line12
+  twelfth e t h = ap (λ (b : Bool). cond b 12 0) h ∙ sym (late ∙ first_append_zero (group_lines i) (line12 i ∷ []) numbered_11 (sym e))
 
-  pub is_10 : test8 i ≡ false → test20 how ≡ false → test9 i ≡ false → test10 i ≡ true → 10 ≡ first_of (input_lines how i)
-  is_10 e8 e20 e9 e10 = sym (cascade ∙ (rw (e8, e20, e9, e10) refl))
-
-  pub is_11 : test8 i ≡ false → test20 how ≡ false → test9 i ≡ false → test10 i ≡ false → test11 i ≡ true → 11 ≡ first_of (input_lines how i)
-  is_11 e8 e20 e9 e10 e11 = sym (cascade ∙ (rw (e8, e20, e9, e10, e11) refl))
-
-  pub is_12 : test8 i ≡ false → test20 how ≡ false → test9 i ≡ false → test10 i ≡ false → test11 i ≡ false → test12 i ≡ true → 12 ≡ first_of (input_lines how i)
-  is_12 e8 e20 e9 e10 e11 e12 = sym (cascade ∙ (rw (e8, e20, e9, e10, e11, e12) refl))
-
-  pub is_none : test8 i ≡ false → test20 how ≡ false → test9 i ≡ false → test10 i ≡ false → test11 i ≡ false → test12 i ≡ false → 0 ≡ first_of (input_lines how i)
-  is_none e8 e20 e9 e10 e11 e12 = sym (cascade ∙ (rw (e8, e20, e9, e10, e11, e12) refl))
-
-  -- ---- all of them
-  pub early : first_of (lines_to7 i.settings) ≡ 0 → (lent : Lent)
-      → sweep_number how i lent ≡ first_of (input_lines how i ++ line13 i lent ∷ [])
+-- ---- the lines after 1 to 7
+module _ (how : How) (i : Input) (lent : Lent) (fine : 0 ≡ first_of (lines_to7 i.settings)) where
+  early : sweep_number how i lent ≡ first_of (input_lines how i ++ line13 i lent ∷ [])
   unfolding sweep_number sweep_lines
-  early e lent = first_append_zero (lines_to7 i.settings) (input_lines how i ++ line13 i lent ∷ []) (numbered_7 i.settings) e
+  early = first_append_zero (lines_to7 i.settings) (input_lines how i ++ line13 i lent ∷ []) (numbered_7 i.settings) (sym fine)
+
+  -- one of 8, 20 and 9 to 12 applies
+  pub refused_12 : (why : R.Refusal) → number_of why ≡ first_of (input_lines how i) → number_of why ≡ sweep_number how i lent
+  refused_12 why e = refused_first (input_lines how i) (line13 i lent ∷ []) why e ∙ sym early
 
   numbered : Numbered (input_lines how i)
   unfolding line8 line9 line10 line11 line12 line20
   numbered = tt
 
-  -- refused by 1 to 7, by 8, 20 and 9 to 12, by 13, by none
-  module _ (lent : Lent) where
-    pub refused_7 : {n : ℕ} → n ≡ first_of (lines_to7 i.settings) → n ≢ 0 → n ≡ sweep_number how i lent
-    unfolding sweep_number sweep_lines
-    refused_7 e h = e ∙ sym (first_append_some (lines_to7 i.settings) (input_lines how i ++ line13 i lent ∷ []) (λ z. h (e ∙ z)))
-
-    module _ (fine : first_of (lines_to7 i.settings) ≡ 0) where
-      pub refused_12 : {n : ℕ} → n ≡ first_of (input_lines how i) → n ≢ 0 → n ≡ sweep_number how i lent
-      refused_12 e h = e ∙ sym (first_append_some (input_lines how i) (line13 i lent ∷ []) (λ z. h (e ∙ z))) ∙ sym (early fine lent)
-
-      pub refused_13 : {n : ℕ} (t : Bool) → n ≡ first_of (input_lines how i) → n ≡ 0 → lent_bad i.settings (work_needed i) lent.seeds lent.bitmap lent.work ≡ t
-          → cond t 13 0 ≡ sweep_number how i lent
-      unfolding first_of line13 work_needed
-      refused_13 t e z h = ap (λ (b : Bool). cond b 13 0) (sym h) ∙ sym (early fine lent ∙ first_append_zero (input_lines how i) (line13 i lent ∷ []) numbered (sym e ∙ z))
+  -- none of them does, so that 13 decides
+  pub thirteenth : {room : Room} → 0 ≡ first_of (input_lines how i) → RoomFor i room → (t : Bool) → t ≡ lent_bad i.settings room.words lent.seeds lent.bitmap lent.work
+      → cond t 13 0 ≡ sweep_number how i lent
+  unfolding first_of line13 work_needed
+  thirteenth e f t h =
+      ap (λ (b : Bool). cond b 13 0) (h ∙ ap (λ (w : ℕ). lent_bad i.settings w lent.seeds lent.bitmap lent.work) f.words.0)
+      ∙ sym (early ∙ first_append_zero (input_lines how i) (line13 i lent ∷ []) numbered (sym e))
 
 -- ---- what begins that pass leave
 module _ (begins : List ℕ) (n keys : ℕ) (pass : T (not (begins_bad begins n keys))) where
@@ -140,6 +133,3 @@ module _ (begins : List ℕ) (n keys : ℕ) (pass : T (not (begins_bad begins n 
     rises = rising_steps begins n rise;
     within = λ b l. omega (arith, on (n - b) b (omega arith), ends);
   }
-
-  pub begins_rise : (n + 1 ≤ length begins) × (rising begins n ≡ true)
-  begins_rise = (omega (arith, long), is_true (rising begins n) rise)

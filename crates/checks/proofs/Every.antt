@@ -1,13 +1,15 @@
 -- A test of every element, as a loop meets it: it is true where each element passes, and false where one fails. Assumes nothing.
-use mathlib.Core.Path.{◌≡◌, refl, subst}
+use mathlib.Core.Path.{◌≡◌, refl, ap, ◌∙◌, subst}
 use mathlib.Core.Logic.{inl, inr}
-use mathlib.Core.Bool.{Bool, true, false, ◌&&◌}
+use mathlib.Core.Bool.{Bool, true, false, not, ◌&&◌, ◌||◌}
 use mathlib.Core.List.{List, [], ◌∷◌}
 use Prim.Native.Nat.{ℕ, zero, suc, ◌<◌}
 use native.Mathlib.Omega.{arith}
+use Rattle.std.proofs.Math.Numerals.{add-one}
+use Rattle.std.specs.List.{list_any, range_with_len}
 use lib.Dec.{T}
 use lib.ListN.{length, get_or}
-use Rattle.rules.specs.Lists.{every, below}
+use Rattle.rules.specs.Lists.{every, count_from, below}
 use Rattle.rules.proofs.Tests.{split, is_true, is_false, of_true}
 use Rattle.rules.proofs.Ranges.{every_below, below_every}
 
@@ -19,6 +21,23 @@ refuted t never = elim (split t) [ inl y ↦ absurd (never y) | inr n ↦ is_fal
 pub never : (a : Bool) → (a && false) ≡ false
 never true = refl
 never false = refl
+
+-- one of a list fails exactly where not every one passes
+either : (a b : Bool) → (not a || not b) ≡ not (a && b)
+either true b = refl
+either false b = refl
+
+pub some_fails : {A : Type 0} (p : A → Bool) (xs : List A) → list_any (λ x. not (p x)) xs ≡ not (every p xs)
+some_fails p [] = refl
+some_fails p (x ∷ xs) = ap (λ t. not (p x) || t) (some_fails p xs) ∙ either (p x) (every p xs)
+
+-- the numbers that a range yields
+range_from : (n a : ℕ) → range_with_len a n ≡ count_from a n
+range_from zero a = refl
+range_from (suc n) a = rw add-one (ap (λ xs. a ∷ xs) (range_from n (suc a)))
+
+pub some_below : (p : ℕ → Bool) (n : ℕ) → list_any (λ k. not (p k)) (range_with_len 0 n) ≡ not (every p (below n))
+some_below p n = rw (range_from n 0) (some_fails p (below n))
 
 -- over the numbers below n
 module _ (p : ℕ → Bool) (n : ℕ) where
@@ -41,3 +60,12 @@ module _ {A : Type 0} (p : A → Bool) (d : A) where
   list_fails [] k l e = let z : ⊥ = omega arith in absurd z
   list_fails (x ∷ xs) zero l e = rw e refl
   list_fails (x ∷ xs) (suc k) l e = rw (list_fails xs k (omega arith) e) (never (p x))
+
+-- a test, from the answer that it fails
+pub passes : (t : Bool) → false ≡ not t → t ≡ true
+passes true e = refl
+passes false e = e
+
+pub fails : (t : Bool) → true ≡ not t → t ≡ false
+fails true e = e
+fails false e = refl

@@ -1,5 +1,4 @@
 pub mod Every
-pub mod Weights
 pub mod Sizes
 pub mod Stray
 pub mod Cascade

@@ -1,13 +1,14 @@
 -- Whether hashes are outside their buckets, told from what a function is given of an input. Assumes nothing.
-use Rattle.std.specs.Prelude.{◌≡◌, Bool, not, List, ℕ, ◌+◌, ◌≤◌, ◌<◌, length, get_or}
+use Rattle.std.specs.Prelude.{◌≡◌, Bool, not, List, ℕ, ◌+◌, ◌≤◌, ◌<◌, length, eqb, get_or}
 use Rattle.rules.specs.declared.Settings.{Settings}
 use Rattle.rules.specs.Lists.{every, below}
 use Rattle.rules.specs.Order.{Input}
-use Rattle.rules.specs.Numbers.{is_home, all_home}
+use Rattle.rules.specs.Geometry.{bucket_of}
+use Rattle.rules.specs.Numbers.{all_home}
 
--- r says whether one of the keys is outside bucket b
-pub record Strays (s : Settings) (keys : List ℕ) (b : ℕ) (r : Bool) : Type 0 where
-  pub is : (i : Input) → i.settings ≡ s → r ≡ not (every (is_home i b) keys)
+-- each of the keys is inside bucket b
+abbrev pub all_in : Settings → (keys : List ℕ) → (b : ℕ) → Bool
+all_in s keys b = every (λ h. eqb (bucket_of s h) b) keys
 
 -- r says whether one of the first n buckets has a key outside it
 pub record Strayed (s : Settings) (hashes begins : List ℕ) (n : ℕ) (r : Bool) : Type 0 where

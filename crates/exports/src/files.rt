@@ -7,8 +7,9 @@ ghost use Rattle.level_file.specs.Writing.{write_answer, bytes_after};
 ghost use Rattle.exports.specs.Level.{settings_of};
 ghost use Rattle.exports.specs.Told.{number_told, values_told, value_told};
 
-use level_file::{FileRead, FileWritten, read_file, write_file};
-use rules::Settings;
+use crate::level::settings_of;
+use level_file::reading::{Level, read_file};
+use level_file::writing::write_file;
 
 // Writes a level file. 0: written has its length; else all bytes of out and written are 0.
 pub fn phastr_level_write(
@@ -26,21 +27,19 @@ pub fn phastr_level_write(
     ensures file { out.new ≡ bytes_after (level_of (settings_of m log2_slice_len ll sb buckets) seeds.now holes.now) out.old }
     ensures long { written.new ≡ value_told (write_answer (level_of (settings_of m log2_slice_len ll sb buckets) seeds.now holes.now) (length out.old)) 0 }
 {
-    let s = Settings {
-        m: m,
-        log2_slice_len: log2_slice_len,
-        ll: ll,
-        sb: sb,
-        buckets: buckets,
-    };
-    match write_file(s, seeds, holes, out) {
-        FileWritten::Length(n) => {
+    match write_file(
+        settings_of(m, log2_slice_len, ll, sb, buckets),
+        seeds,
+        holes,
+        out,
+    ) {
+        Ok(n) => {
             *written = n;
             0
         }
-        FileWritten::Refused(number) => {
+        Err(why) => {
             *written = 0;
-            number
+            why.number()
         }
     }
 }
@@ -58,16 +57,18 @@ pub fn phastr_level_read(
     ensures told { level.new ≡ values_told (read_answer (read_file bytes.now (length seeds.old) (length holes.old))) (replicate 6 0) }
 {
     match read_file(bytes, seeds, holes) {
-        FileRead::Level {
-            settings: s,
-            hole_count,
-        } => {
+        Ok(
+            Level {
+                settings: s,
+                hole_count,
+            },
+        ) => {
             *level = [s.m, s.log2_slice_len, s.ll, s.sb, s.buckets, hole_count];
             0
         }
-        FileRead::Refused(number) => {
+        Err(why) => {
             *level = [0; 6];
-            number
+            why.number()
         }
     }
 }

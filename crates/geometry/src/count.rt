@@ -4,16 +4,16 @@ ghost use Rattle.rules.specs.BucketCount.{size_cap, size_fits, half_up, odd_up};
 ghost use Rattle.rules.specs.Answers.{said_count, count_answer};
 ghost use Rattle.geometry.specs.Small.{Small};
 
-use integers::choice::smaller;
 use integers::power::power_of_two;
 use rules::Refusal;
 
 // The largest bucket size.
+#[tactic(auto, unfolding(rules::specs::BucketCount::size_cap))]
 fn size_cap(log2_slice_len: u64) -> u64
     requires { log2_slice_len ≤ 16 }
     ensures { (result ≡ size_cap log2_slice_len) × (result ≤ 64) }
 {
-    smaller(power_of_two(log2_slice_len) / 8, 64)
+    (power_of_two(log2_slice_len) / 8).min(64)
 }
 
 // Whether a size is from 1 to cap, which no NaN is.
@@ -34,6 +34,7 @@ fn rounded(q: f64) -> u64
 }
 
 // At least 1, and odd.
+#[tactic(auto, unfolding(rules::specs::BucketCount::odd_up))]
 fn odd_up(n: u64) -> u64
     requires { n ≤ 67108865 }
     ensures { result ≡ odd_up (max 1 n) }

@@ -7,12 +7,12 @@ use super::shape::Geometry;
 use integers::product::{mul_hi, mul_lo};
 
 // The bucket of h.
+#[tactic(auto, unfolding(rules::specs::Geometry::bucket_of))]
 pub fn bucket_of(g: Geometry, h: u64) -> u64
     requires { Made g }
     ensures { (result ≡ G.bucket_of g.settings h) × (result < g.settings.buckets) }
 {
-    let s = g.settings;
-    mul_hi(h, s.buckets)
+    mul_hi(h, g.settings.buckets)
 }
 
 // The slice of h.
@@ -24,11 +24,11 @@ pub fn slice_of(g: Geometry, h: u64) -> u64
 }
 
 // o = h * B modulo 2^64, from which each layout takes its offset.
+#[tactic(auto, unfolding(rules::specs::Geometry::offset_of))]
 pub fn offset_of(g: Geometry, h: u64) -> u64
     ensures { result ≡ G.offset_of g.settings h }
 {
-    let s = g.settings;
-    mul_lo(h, s.buckets)
+    mul_lo(h, g.settings.buckets)
 }
 
 // The first slice of bucket b.

@@ -5,7 +5,6 @@ ghost use Rattle.rules.specs.Good.{Good, Usable};
 ghost use Rattle.rules.specs.Numbers.{first_of, lines_to6, lines_to7};
 ghost use Rattle.rules.specs.Answers.{refused_by, said_checked, settings_answer};
 
-use integers::choice::smaller;
 use integers::power::{log2_up, power_of_two};
 use rules::{Refusal, Settings};
 
@@ -37,11 +36,12 @@ pub fn check_to_6(s: Settings) -> Result<(), Refusal>
 }
 
 // log2 of the slice length l.
+#[tactic(auto, using(rules::proofs::GeometryLaws::log_len_is))]
 pub fn log2_len(s: Settings) -> u64
     requires { Usable s }
     ensures { (result ≡ log_len s) × (result ≤ 16) }
 {
-    smaller(log2_up(s.m / 2 + 1), s.log2_slice_len)
+    log2_up(s.m / 2 + 1).min(s.log2_slice_len)
 }
 
 // The slice length l.
@@ -65,8 +65,7 @@ pub fn per_bucket(s: Settings) -> u64
     requires { Usable s }
     ensures { (result ≡ per_bucket s) × (result < 268435456) }
 {
-    let b = s.buckets;
-    (slice_count(s) + (b - 1)) / b
+    (slice_count(s) + (s.buckets - 1)) / s.buckets
 }
 
 // Whether a sweep takes the settings: refuses them by the first of 1 to 7 that applies.

@@ -6,7 +6,6 @@ ghost use Rattle.rules.specs.Good.{Usable};
 ghost use Rattle.geometry.specs.Shape.{geometry_of, Made};
 
 use super::settings::{log2_len, per_bucket, slice_count, slice_len};
-use integers::choice::{larger, less, smaller};
 use integers::power::{next_power_of_two, power_of_two};
 use rules::Settings;
 
@@ -54,7 +53,7 @@ fn stride_of(ll: u64, scale: u64, log2_l: u64) -> u64
     requires { (ll ≤ 64) × (scale ≤ 64) }
     ensures { (result ≡ min (ll + scale) log2_l) × (result ≤ log2_l) }
 {
-    smaller(ll + scale, log2_l)
+    (ll + scale).min(log2_l)
 }
 
 // The ring slots, from l, p and 2^t.
@@ -70,35 +69,29 @@ pub fn geometry_of(s: Settings) -> Geometry
     requires { Usable s }
     ensures { result ≡ geometry_of s }
 {
-    let ll = s.ll;
-    let sb = s.sb;
-    let buckets = s.buckets;
     let log2_l = log2_len(s);
     let l = slice_len(s);
     let slices = slice_count(s);
-    let p = per_bucket(s);
-    let scale = less(log2_l, sb);
-    let layouts = power_of_two(ll);
-    let stride = stride_of(ll, scale, log2_l);
+    let per_bucket = per_bucket(s);
+    let scale = log2_l.saturating_sub(s.sb);
+    let layouts = power_of_two(s.ll);
+    let stride = stride_of(s.ll, scale, log2_l);
     let span = power_of_two(stride);
-    let seeds = power_of_two(sb);
-    let q_lo = fraction(slices % buckets, buckets);
-    let slots = slots_of(l, p, span);
     Geometry {
         settings: s,
-        l: l,
-        slices: slices,
-        scale: scale,
-        layouts: layouts,
+        l,
+        slices,
+        scale,
+        layouts,
         layout_bits: 64 / layouts,
-        stride: stride,
+        stride,
         ring: l / span,
-        rotations: seeds / layouts,
-        q_hi: slices / buckets,
-        q_lo: q_lo,
-        per_bucket: p,
-        slots: slots,
-        entries: 95 + (p + 1) + l,
+        rotations: power_of_two(s.sb) / layouts,
+        q_hi: slices / s.buckets,
+        q_lo: fraction(slices % s.buckets, s.buckets),
+        per_bucket,
+        slots: slots_of(l, per_bucket, span),
+        entries: 95 + (per_bucket + 1) + l,
     }
 }
 
@@ -107,8 +100,7 @@ fn words(slots: u64, z: u64, layouts: u64, ring: u64) -> u64
     requires { (slots < 2 ^ 40) × (z ≤ 4096) × (layouts ≤ 64) × (ring ≤ 65536) }
     ensures { (result ≡ slots / 32 + z * (layouts + 2) + 3 * layouts * max ring 64 + 2560) × (result < 2 ^ 36) }
 {
-    let n = larger(ring, 64);
-    slots / 32 + z * (layouts + 2) + 3 * layouts * n + 2560
+    slots / 32 + z * (layouts + 2) + 3 * layouts * ring.max(64) + 2560
 }
 
 // W, the work words that a sweep wants whose largest bucket has z keys.

@@ -1,5 +1,5 @@
 // PHastR's default shape, told by a few tests, and its numbers as literals for the compiler to fold.
-ghost use Rattle.std.specs.Prelude.{◌≡◌};
+ghost use Rattle.std.specs.Prelude.{◌≡◌, IsTrue};
 ghost use Rattle.geometry.specs.Shape.{Made};
 ghost use Rattle.geometry.specs.Usual.{Usual, usual_shape, usual_settings};
 
@@ -7,35 +7,20 @@ use super::shape::Geometry;
 use rules::Settings;
 
 // Whether a geometry has the default shape: three tests, and all other numbers follow.
+#[tactic(auto, unfolding(crate::specs::Usual::usual_shape))]
 pub fn usual(g: Geometry) -> bool
-    ensures { result ≡ usual_shape g }
+    ensures shape { result ≡ usual_shape g }
+    ensures told { IsTrue result → Usual g }
 {
-    if g.l != 1024 {
-        return false;
-    }
-    if g.settings.ll != 2 {
-        return false;
-    }
-    g.settings.sb == 8
+    g.l == 1024 && g.settings.ll == 2 && g.settings.sb == 8
 }
 
 // Whether settings are the default ones: then 1 to 5 do not apply, and their geometry has the default shape.
+#[tactic(auto, unfolding(crate::specs::Usual::usual_settings))]
 pub fn usual_settings(s: Settings) -> bool
     ensures { result ≡ usual_settings s }
 {
-    if s.log2_slice_len != 10 {
-        return false;
-    }
-    if s.ll != 2 {
-        return false;
-    }
-    if s.sb != 8 {
-        return false;
-    }
-    if s.m < 1024 {
-        return false;
-    }
-    s.m <= 134_217_728
+    s.log2_slice_len == 10 && s.ll == 2 && s.sb == 8 && 1024 <= s.m && s.m <= 134_217_728
 }
 
 // The same geometry, in which the numbers of the default shape are literals.
@@ -44,21 +29,15 @@ pub fn literal(g: Geometry) -> Geometry
     requires usual { Usual g }
     ensures { result ≡ g }
 {
-    let s = g.settings;
     Geometry {
-        settings: s,
         l: 1024,
-        slices: s.m - 1023,
+        slices: g.settings.m - 1023,
         scale: 2,
         layouts: 4,
         layout_bits: 16,
         stride: 4,
         ring: 64,
         rotations: 64,
-        q_hi: g.q_hi,
-        q_lo: g.q_lo,
-        per_bucket: g.per_bucket,
-        slots: g.slots,
-        entries: g.entries,
+        ..g
     }
 }

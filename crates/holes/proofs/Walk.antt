@@ -7,7 +7,7 @@ use mathlib.Core.List.{List, [], ◌∷◌, ◌++◌, append-nil}
 use mathlib.Core.Bool.{not}
 use Prim.Native.Nat.{ℕ, zero, suc, ◌+◌, ◌-◌, ◌*◌, ◌/◌, ◌%◌, ◌^◌, ◌≤◌, ◌<◌, min}
 use native.Mathlib.Omega.{arith}
-use native.Mathlib.Nat.{suc-add, add-suc, add-zero, mod-lt, mod-eq_of_lt, lt_of_lt_of_le, min-le_left}
+use native.Mathlib.Nat.{suc-add, add-suc, add-zero, mod-lt, lt_of_lt_of_le, min-le_left}
 use lib.Dec.{eqb}
 use lib.ListN.{length, get_or, length-append}
 use lib.Pow.{pow_pos, pow_mono}
@@ -22,7 +22,7 @@ use Rattle.words.specs.MapLaws.{slot_at, slot_cases}
 use Rattle.rules.specs.Lists.{count_from, keep, filter}
 use Rattle.rules.specs.Holes.{unmarked, holes_of}
 use Rattle.rules.proofs.Counting.{length_from}
-use Rattle.holes.specs.Free.{free_word}
+use Rattle.holes.specs.Free.{free_bits, free_word}
 use Rattle.holes.proofs.Parts.{from_append, filter_append, filter_length}
 use Rattle.holes.proofs.SetBits.{set_slots, slots_zero, slots_odd, slots_even, slots_length}
 
@@ -71,11 +71,11 @@ rest_from m ws w = holes_from ws (w * 64) (m - w * 64)
 
 module _ (m : ℕ) (ws : List ℕ) where
   pub free_lt : (w : ℕ) → free_word m ws w < 2 ^ 64
-  unfolding free_word
+  unfolding free_bits
   free_lt w = lt_of_lt_of_le (mod-lt ((2 ^ 64 - 1) - get_or ws w 0) (pow_pos (min 64 (m - w * 64)))) (pow_mono (min-le_left 64 (m - w * 64)))
 
   free_holes : (w : ℕ) → get_or ws w 0 < 2 ^ 64 → set_slots (w * 64) 64 (free_word m ws w) ≡ holes_from ws (w * 64) (min 64 (m - w * 64))
-  unfolding free_word
+  unfolding free_bits
   free_holes w h =
       slots_holes ws v 64 (w * 64) (x % 2 ^ v) (omega arith) (mod-lt x (pow_pos v))
       (λ i hi. bit_mod v x i hi ∙ bit_not 64 (get_or ws w 0) i h (omega arith) ∙ ap (λ (y : ℕ). 1 - y) (sym (slot_at ws w i (omega arith))))
@@ -122,14 +122,6 @@ module _ (m : ℕ) (ws : List ℕ) where
       ap length (rest_step w h) ∙ length-append (set_slots (w * 64) 64 (free_word m ws w)) (rest_from m ws (w + 1))
       ∙ ap (λ (x : ℕ). x + length (rest_from m ws (w + 1))) (slots_length (w * 64) 64 (free_word m ws w) (free_lt w))
 
-  -- ---- what the code of `free_word` computes
-
-  pub free_part : (w : ℕ) → m - w * 64 < 64 → bit_and ((2 ^ 64 - 1) - get_or ws w 0) (1 * 2 ^ (m - w * 64) % 2 ^ 64 - 1) ≡ free_word m ws w
-  unfolding free_word
-  free_part w h =
-      let v : min 64 (m - w * 64) ≡ m - w * 64 = omega arith in
-      rw v (and_low 64 (m - w * 64) ((2 ^ 64 - 1) - get_or ws w 0) h)
-
-  pub free_whole : (w : ℕ) → 64 ≤ m - w * 64 → (2 ^ 64 - 1) - get_or ws w 0 ≡ free_word m ws w
-  unfolding free_word
-  free_whole w h = let v : min 64 (m - w * 64) ≡ 64 = omega arith in rw v (sym (mod-eq_of_lt (omega arith)))
+-- a mask of so many ones cuts a word
+pub masked : (x v : ℕ) → v < 64 → bit_and x (1 * 2 ^ v % 2 ^ 64 - 1) ≡ x % 2 ^ v
+masked x v h = and_low 64 v x h

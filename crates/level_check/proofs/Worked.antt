@@ -10,10 +10,10 @@ use Rattle.rules.specs.Seed.{slots_of}
 use Rattle.rules.specs.Sweep.{takes, word_of, bitmap_of}
 use Rattle.rules.specs.Numbers.{first_of, line1, line2, line3, line4, line5, line6, line7, line9, line10, line11, lines_to6, lines_to7, step_up, rising, small_bucket, is_home, all_home}
 use Rattle.rules.specs.Answers.{Said, Answer, Refusal, unless}
-use Rattle.level_check.specs.Check.{level_of, seed_fits, again, after, same_words, good_seed, slots_at, placed_slots, lowest, check_lines, level_answer, check_answer}
+use Rattle.level_check.specs.Check.{level_of, seed_fits, again, after, good_seed, slots_at, placed_slots, lowest, check_lines, level_answer, check_answer}
 
 unfoldable pub checked_by : (seeds : List ℕ) → (word : ℕ) → (scratch : List ℕ) → Said
-unfolding least_from log_up least_power slice_len log_len slices scale layouts bucket_of slice_of offset_of layout_offset position per_bucket size_of keys_of slots_of takes word_of bitmap_of first_of line1 line2 line3 line4 line5 line6 line7 line9 line10 line11 lines_to6 lines_to7 step_up rising small_bucket is_home all_home unless seed_fits again after same_words good_seed slots_at placed_slots lowest check_lines level_answer check_answer
+unfolding least_from log_up least_power slice_len log_len slices scale layouts bucket_of slice_of offset_of layout_offset position per_bucket size_of keys_of slots_of takes word_of bitmap_of first_of line1 line2 line3 line4 line5 line6 line7 line9 line10 line11 lines_to6 lines_to7 step_up rising small_bucket is_home all_home unless seed_fits again after good_seed slots_at placed_slots lowest check_lines level_answer check_answer
 checked_by seeds word scratch =
     check_answer (level_of (record { m = 7; log2_slice_len = 3; ll = 0; sb = 4; buckets = 3 }) (2 ^ 62 ∷ (2 ^ 62 + 3) ∷ 2 ^ 63 ∷ []) (0 ∷ 2 ∷ 3 ∷ 3 ∷ [])) seeds (word ∷ []) scratch
 

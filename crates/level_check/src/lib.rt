@@ -8,24 +8,15 @@ ghost use Rattle.checks.specs.Homes.{Begun};
 ghost use Rattle.level_check.specs.Check.{level_of, said_matched, level_answer, check_answer, check_scratch};
 
 mod first;
-mod maps;
 mod seeds;
 mod slots;
 
-use self::first::first_number;
-use self::maps::{clear, same_words};
+use self::first::check_first;
 use self::seeds::seeds_bad;
 use self::slots::mark_buckets;
 use geometry::shape::{Geometry, geometry_of};
 use integers::power::power_of_two;
-use rules::{Named, Settings};
-
-// What a check answers.
-#[derive(Clone, Copy)]
-pub enum Matched {
-    Accepted,
-    Refused(u64, Named),
-}
+use rules::{Refusal, Settings, Stop};
 
 // 28, 29, 30 or accepted, the first checks having passed.
 fn judge(
@@ -35,7 +26,7 @@ fn judge(
     seeds: &[u16],
     bitmap: &[u64],
     scratch: &mut [u64],
-) -> Matched
+) -> Result<(), Stop>
     requires made { Made g }
     requires begun { Begun begins.now (length seeds.now) (length hashes.now) }
     requires seeds_len { (length seeds.now ≡ g.settings.buckets) × (length bitmap.now ≡ bitmap_words g.settings.m) × (length scratch.old ≡ bitmap_words g.settings.m) }
@@ -43,21 +34,23 @@ fn judge(
     ensures scratch { scratch.new ≡ replicate (length scratch.old) 0 }
 {
     let s = g.settings;
-    clear(scratch);
+    scratch.fill(0);
     if seeds_bad(power_of_two(s.sb), begins, hashes.len(), seeds) {
-        return Matched::Refused(28, Named::NoBucket);
+        return Err(Refusal::BadSeed.into());
     }
-    let b = mark_buckets(g, hashes, begins, seeds, scratch);
-    if b < seeds.len() {
-        clear(scratch);
-        return Matched::Refused(29, Named::Bucket(b as u64));
+    if let Some(b) = mark_buckets(g, hashes, begins, seeds, scratch) {
+        scratch.fill(0);
+        return Err(Stop {
+            why: Refusal::SlotTwice,
+            bucket: Some(b as u64),
+        });
     }
-    let same = same_words(bitmap, scratch);
-    clear(scratch);
-    if same {
-        return Matched::Accepted;
+    let same = bitmap == &*scratch;
+    scratch.fill(0);
+    if !same {
+        return Err(Refusal::Bitmap.into());
     }
-    Matched::Refused(30, Named::NoBucket)
+    Ok(())
 }
 
 // Accepts a level or says what is wrong with it. The scratch is zero afterwards, unless one of the first checks refuses.
@@ -68,14 +61,11 @@ pub fn check_level(
     seeds: &[u16],
     bitmap: &[u64],
     scratch: &mut [u64],
-) -> Matched
+) -> Result<(), Stop>
     ensures answer { said_matched result ≡ check_answer (level_of settings hashes.now begins.now) seeds.now bitmap.now scratch.old }
     ensures scratch { scratch.new ≡ check_scratch (level_of settings hashes.now begins.now) seeds.now bitmap.now scratch.old }
 {
-    let n = first_number(settings, hashes, begins, seeds, bitmap.len(), scratch.len());
-    if n != 0 {
-        return Matched::Refused(n, Named::NoBucket);
-    }
+    check_first(settings, hashes, begins, seeds, bitmap.len(), scratch.len())?;
     judge(
         geometry_of(settings),
         hashes,

@@ -17,14 +17,12 @@ fn mark_keys(g: Geometry, keys: &[u64], seed: u16, scratch: &mut [u64]) -> bool
     requires { (Made g) × (g.settings.m ≤ 64 * length scratch.old) }
     ensures { Met g.settings.m (map (G.position g.settings seed) keys.now) scratch.old scratch.new result }
 {
-    let mut k = 0;
-    while k < keys.len() {
-        let x = position(g, keys[k], seed) as usize;
+    for key in keys {
+        let x = position(g, *key, seed) as usize;
         if is_occupied(scratch, x) {
             return true;
         }
         set_bit(scratch, x);
-        k += 1;
     }
     false
 }
@@ -34,32 +32,26 @@ fn mark_bucket(g: Geometry, keys: &[u64], seed: u16, scratch: &mut [u64]) -> boo
     requires { (Made g) × (g.settings.m ≤ 64 * length scratch.old) }
     ensures { Met g.settings.m (slots_by g.settings seed keys.now) scratch.old scratch.new result }
 {
-    if seed == 0 {
-        return false;
-    }
-    mark_keys(g, keys, seed, scratch)
+    seed != 0 && mark_keys(g, keys, seed, scratch)
 }
 
-// The lowest bucket at which a slot is met again, or the number of buckets; the slots met are marked in an empty scratch.
+// The lowest bucket at which a slot is met again, if there is one; the slots met are marked in an empty scratch.
 pub fn mark_buckets(
     g: Geometry,
     hashes: &[u64],
     begins: &[u32],
     seeds: &[u16],
     scratch: &mut [u64],
-) -> usize
+) -> Option<usize>
     requires made { (Made g) × (g.settings.m ≤ 64 * length scratch.old) }
     requires begun { Begun begins.now (length seeds.now) (length hashes.now) }
     requires scratch_value { scratch.old ≡ bitmap_of g.settings.m [] }
     ensures { Passed (level_of g.settings hashes.now begins.now) seeds.now scratch.new result }
 {
-    let mut b = 0;
-    while b < seeds.len() {
-        let keys = keys_of(hashes, begins, b);
-        if mark_bucket(g, keys, seeds[b], scratch) {
-            return b;
+    for (b, seed) in seeds.iter().enumerate() {
+        if mark_bucket(g, keys_of(hashes, begins, b), *seed, scratch) {
+            return Some(b);
         }
-        b += 1;
     }
-    b
+    None
 }

@@ -1,38 +1,18 @@
--- What the functions of `making` come by, as laws of the definition: a squaring, the loop over 25 of them, where the loop begins, and a table that is
+-- What the functions of `making` come by, as laws of the definition: the loop over 25 of them, where the loop begins, and a table that is
 -- filled up to an entry. Assumes nothing.
 use mathlib.Core.Path.{◌≡◌, refl, sym, ap, ap₂, ◌∙◌, subst}
-use mathlib.Core.List.{List, []}
-use mathlib.Core.Logic.{◌⊎◌, inl, inr}
+use mathlib.Core.List.{List}
 use Prim.Native.Nat.{ℕ, zero, suc, ◌+◌, ◌-◌, ◌*◌, ◌/◌, ◌%◌, ◌^◌, ◌≤◌, ◌<◌}
 use native.Mathlib.Nat.{mul-le-mul, mul-le-mul_right}
 use native.Mathlib.Decide.{dec_le}
 use native.Mathlib.Omega.{arith}
-use borrow.Author.Tests.{lt-ltb, le-ltb}
 use lib.Count.{count_leading_zeros, leading_top}
 use lib.ListN.{length, get_or, set}
 use lib.Seq.{get_or-set_same, get_or-set_other, ext_get_or}
 use lib.Pow.{pow_pos, pow_mono, shl_exact}
-use Rattle.log_table.specs.Logs.{digit, raised, squares, bits, log_entry, log_table, log_lines, log_answer, logs_out}
-use Rattle.rules.specs.Numbers.{first_of}
-use Rattle.rules.specs.Answers.{Answer, Refusal, unless, kept_unless}
-use Rattle.log_table.proofs.Leading.{Low, High, halves, grown}
+use Rattle.log_table.specs.Logs.{digit, raised, squares, bits, log_entry, log_table}
+use Rattle.log_table.proofs.Leading.{grown}
 use Rattle.log_table.proofs.LogLaws.{Long, long_of, long_small, entry_of, log_zero, log_doubles, table_length, table_at}
-
--- ---- a squaring, whose upper word is h
-
-pub low_is : (h e : ℕ) → h < 2 ^ 63 → (2 * h ≡ raised h) × (2 * e ≡ 2 * e + digit h)
-low_is h e lt = by (halves h)
-  where
-    by : Low h ⊎ High h → (2 * h ≡ raised h) × (2 * e ≡ 2 * e + digit h)
-    by (inl l) = (omega arith, omega arith)
-    by (inr l) = absurd (omega arith)
-
-pub high_is : (h e : ℕ) → 2 ^ 63 ≤ h → (h ≡ raised h) × (2 * e + 1 ≡ 2 * e + digit h)
-high_is h e le = by (halves h)
-  where
-    by : Low h ⊎ High h → (h ≡ raised h) × (2 * e + 1 ≡ 2 * e + digit h)
-    by (inl l) = absurd (omega arith)
-    by (inr l) = (omega arith, omega arith)
 
 -- ---- the loop: n squarings are left, and lead to the same exponent r
 
@@ -48,12 +28,9 @@ left_start n x e h k =
 pub left_small : (n x e r : ℕ) → Left n x e r → e < 2 ^ 31
 left_small n x e r l = omega (arith, l.same, l.small, (grown n x e).least, mul-le-mul_right e (pow_pos n))
 
-pub left_step : (n x e y f r : ℕ) → 0 < n → y ≡ raised (x * x / 2 ^ 64) → f ≡ 2 * e + digit (x * x / 2 ^ 64) → Left n x e r → Left (n - 1) y f r
+pub left_step : (m n x e y f r : ℕ) → m ≡ suc n → y ≡ raised (x * x / 2 ^ 64) → f ≡ 2 * e + digit (x * x / 2 ^ 64) → Left m x e r → Left n y f r
 unfolding squares
-left_step zero x e y f r h p q l = absurd (omega arith)
-left_step (suc n) x e y f r h p q l =
-    let less : suc n - 1 ≡ n = omega arith in
-    record { same = ap (λ (k : ℕ). squares k y f) less ∙ ap₂ (λ (i j : ℕ). squares n i j) p q ∙ l.same; small = l.small }
+left_step m n x e y f r h p q l = record { same = ap₂ (λ (i j : ℕ). squares n i j) p q ∙ sym (ap (λ (k : ℕ). squares k x e) h) ∙ l.same; small = l.small }
 
 pub left_end : (n x e r : ℕ) → n ≤ 0 → Left n x e r → e ≡ r
 unfolding squares
@@ -121,23 +98,3 @@ filled_put d t table h e f = record { done = λ i lt. by i lt (dec_le d i) }
 
 pub filled_end : (n : ℕ) (table : List ℕ) → length table ≡ n → Filled n table → table ≡ log_table n
 filled_end n table e f = ext_get_or 0 table (log_table n) (e ∙ sym (table_length n)) (λ i h. f.done i (omega arith) ∙ sym (table_at n i (omega arith)))
-
--- ---- the public call: what it answers and leaves
-
-pub refused_none : (xs : List ℕ) → length xs < 1 → (Refusal 21 [] ≡ log_answer (length xs)) × (xs ≡ logs_out xs)
-unfolding log_answer logs_out log_lines first_of unless kept_unless
-refused_none xs h = let e = lt-ltb (length xs) 1 h in (rw e refl, rw e refl)
-
-pub refused_many : (xs : List ℕ) → 1 ≤ length xs → 131072 < length xs → (Refusal 21 [] ≡ log_answer (length xs)) × (xs ≡ logs_out xs)
-unfolding log_answer logs_out log_lines first_of unless kept_unless
-refused_many xs h k =
-    let e = le-ltb (length xs) 1 h in
-    let f = lt-ltb 131072 (length xs) k in
-    (rw (e, f) refl, rw (e, f) refl)
-
-pub made : (xs ys : List ℕ) → 1 ≤ length xs → length xs ≤ 131072 → ys ≡ log_table (length xs) → (Answer [] ≡ log_answer (length xs)) × (ys ≡ logs_out xs)
-unfolding log_answer logs_out log_lines first_of unless kept_unless
-made xs ys h k t =
-    let e = le-ltb (length xs) 1 h in
-    let f = le-ltb 131072 (length xs) k in
-    (rw (e, f) refl, rw (e, f) t)

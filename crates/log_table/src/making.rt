@@ -4,7 +4,10 @@ ghost use Rattle.log_table.specs.Logs.{digit, raised, log_entry, log_table, log_
 ghost use Rattle.rules.specs.Answers.{said_checked};
 
 use integers::product::mul_hi;
-use rules::Checked;
+use rules::Refusal;
+
+// Each squaring gives a bit of the logarithm: 24 of them, and one to round by.
+const SQUARINGS: u64 = 25;
 
 // x / 2^63 * 2^e, with x from 2^63 on: a number by its leading 64 bits.
 #[derive(Clone, Copy)]
@@ -13,24 +16,26 @@ struct Leading {
     e: u64,
 }
 
-// The upper word of a square, shifted up until it begins with a one.
-fn shifted_up(h: u64, e: u64) -> Leading
-    requires { e < 2 ^ 62 }
-    ensures { (result.x ≡ raised h) × (result.e ≡ 2 * e + digit h) }
-{
-    if h < 0x8000_0000_0000_0000 {
-        Leading { x: 2 * h, e: 2 * e }
-    } else {
-        Leading { x: h, e: 2 * e + 1 }
+impl Leading {
+    // The square, as far as 64 bits tell it: its upper word, shifted up until it begins with a one.
+    #[tactic(auto, unfolding(crate::specs::Logs::raised, crate::specs::Logs::digit))]
+    fn squared(self) -> Leading
+        requires { self.e < 2 ^ 62 }
+        ensures { (result.x ≡ raised (self.x * self.x / 2 ^ 64)) × (result.e ≡ 2 * self.e + digit (self.x * self.x / 2 ^ 64)) }
+    {
+        let h = mul_hi(self.x, self.x);
+        if h < 0x8000_0000_0000_0000 {
+            Leading {
+                x: 2 * h,
+                e: 2 * self.e,
+            }
+        } else {
+            Leading {
+                x: h,
+                e: 2 * self.e + 1,
+            }
+        }
     }
-}
-
-// The square, as far as 64 bits tell it.
-fn squared(p: Leading) -> Leading
-    requires { p.e < 2 ^ 62 }
-    ensures { (result.x ≡ raised (p.x * p.x / 2 ^ 64)) × (result.e ≡ 2 * p.e + digit (p.x * p.x / 2 ^ 64)) }
-{
-    shifted_up(mul_hi(p.x, p.x), p.e)
 }
 
 // 2^24 * log2(d), rounded.
@@ -38,15 +43,13 @@ fn log_entry(d: u64) -> u32
     requires { 1 ≤ d }
     ensures { result ≡ log_entry d }
 {
-    let zeros = u64::leading_zeros(d);
+    let zeros = d.leading_zeros();
     let mut p = Leading {
         x: d << zeros,
         e: (63 - zeros) as u64,
     };
-    let mut n: u64 = 25;
-    while n > 0 {
-        p = squared(p);
-        n -= 1;
+    for _ in 0..SQUARINGS {
+        p = p.squared();
     }
     ((p.e + 1) / 2) as u32
 }
@@ -57,9 +60,10 @@ fn next_entry(table: &[u32], d: usize) -> u32
     ensures { result ≡ log_entry d }
 {
     if d % 2 == 0 {
-        return table[d / 2] + 0x100_0000;
+        table[d / 2] + 0x100_0000
+    } else {
+        log_entry(d as u64)
     }
-    log_entry(d as u64)
 }
 
 // Writes every entry of the table.
@@ -74,16 +78,14 @@ fn fill(table: &mut [u32])
 }
 
 // Fills the table, whose length is from 1 to 131,072. Any other length is refused with 21, and nothing is written.
-pub fn make_logs(table: &mut [u32]) -> Checked
+#[tactic(auto, unfolding(rules::specs::Answers::said_checked, rules::specs::Answers::unless, rules::specs::Answers::kept_unless, rules::specs::Numbers::first_of, crate::specs::Logs::log_lines, crate::specs::Logs::log_answer, crate::specs::Logs::logs_out))]
+pub fn make_logs(table: &mut [u32]) -> Result<(), Refusal>
     ensures answer { said_checked result ≡ log_answer (length table.old) }
     ensures buffer { table.new ≡ logs_out table.old }
 {
-    if table.len() < 1 {
-        return Checked::Refused(21);
-    }
-    if table.len() > 131_072 {
-        return Checked::Refused(21);
+    if table.is_empty() || table.len() > 131_072 {
+        return Err(Refusal::TableLength);
     }
     fill(table);
-    Checked::Fine
+    Ok(())
 }

@@ -1,58 +1,55 @@
-// Lookup of a hash: Bumped if its bucket's seed is 0, else its position (rule H).
+// Lookup of a hash: nothing if its bucket's seed is 0, for then it was bumped, else its position (rule H).
 #![tactic(auto)]
 
-ghost use Rattle.std.specs.Prelude.{◌≡◌, length};
+ghost use Rattle.std.specs.Prelude.{◌≡◌, length, option_to_list};
 ghost use Rattle.rules.specs.Holes.{looked_up};
-ghost use Rattle.rules.specs.Answers.{Answer, said_looked, lookup_answer};
+ghost use Rattle.rules.specs.Answers.{said_looked, lookup_answer};
 ghost use Rattle.geometry.specs.Shape.{Made};
 ghost use Rattle.geometry.specs.Usual.{usual_settings};
 
 use geometry::place::{bucket_of, position};
-use geometry::settings::number_to_6;
+use geometry::settings::check_to_6;
 use geometry::shape::{Geometry, geometry_of};
 use geometry::usual::{literal, usual_settings};
-use rules::{Looked, Settings};
+use rules::{Refusal, Settings};
 
 // Looks a hash up in a geometry that is made once for many lookups.
-pub fn lookup_in(g: Geometry, seeds: &[u16], hash: u64) -> Looked
+pub fn lookup_in(g: Geometry, seeds: &[u16], hash: u64) -> Option<u64>
     requires made { Made g }
     requires seeds_len { length seeds.now ≡ g.settings.buckets }
-    ensures { said_looked result ≡ Answer (looked_up g.settings seeds.now hash) }
+    ensures { option_to_list result ≡ looked_up g.settings seeds.now hash }
 {
-    let b = bucket_of(g, hash) as usize;
-    let seed = seeds[b];
-    if seed == 0 {
-        return Looked::Bumped;
+    match seeds[bucket_of(g, hash) as usize] {
+        0 => None,
+        seed => Some(position(g, hash, seed)),
     }
-    Looked::At(position(g, hash, seed))
 }
 
 // The lookup past the choice of its shape: in the default one the geometry's numbers are literals.
-fn lookup_by(default: bool, settings: Settings, seeds: &[u16], hash: u64) -> Looked
-    requires { default ≡ usual_settings settings }
+fn lookup_by<const DEFAULT: bool>(
+    settings: Settings,
+    seeds: &[u16],
+    hash: u64,
+) -> Result<Option<u64>, Refusal>
+    requires { DEFAULT ≡ usual_settings settings }
     ensures { said_looked result ≡ lookup_answer settings seeds.now hash }
 {
-    let n = number_to_6(settings);
-    if n != 0 {
-        return Looked::Refused(n);
-    }
-    let buckets = settings.buckets;
-    if seeds.len() as u64 != buckets {
-        return Looked::Refused(13);
+    check_to_6(settings)?;
+    if seeds.len() as u64 != settings.buckets {
+        return Err(Refusal::Lengths);
     }
     let g = geometry_of(settings);
-    if default {
-        return lookup_in(literal(g), seeds, hash);
-    }
-    lookup_in(g, seeds, hash)
+    let shaped = if DEFAULT { literal(g) } else { g };
+    Ok(lookup_in(shaped, seeds, hash))
 }
 
 // Looks a hash up. It need not be that of a key, and a seed is used as it stands.
-pub fn lookup(settings: Settings, seeds: &[u16], hash: u64) -> Looked
+pub fn lookup(settings: Settings, seeds: &[u16], hash: u64) -> Result<Option<u64>, Refusal>
     ensures { said_looked result ≡ lookup_answer settings seeds.now hash }
 {
     if usual_settings(settings) {
-        return lookup_by(true, settings, seeds, hash);
+        lookup_by::<true>(settings, seeds, hash)
+    } else {
+        lookup_by::<false>(settings, seeds, hash)
     }
-    lookup_by(false, settings, seeds, hash)
 }

@@ -28,61 +28,36 @@ key_packed s start r h le =
 
 -- ---- one hash, all layouts
 
--- layout r is next, with its shift and its word
-pub record Layering (s : Settings) (h start at size r shift k : ℕ) (old now : List ℕ) : Type 0 where
-  pub le : r ≤ layouts s
-  pub shifted : shift ≡ r * (64 / layouts s)
-  pub next : k ≡ at + r * size
-  pub done : LayoutsFilled s h start at size r old now
-
-pub layering_none : (s : Settings) (h start at size : ℕ) (old : List ℕ) → Layering s h start at size 0 0 at old old
-layering_none s h start at size old = record {
-  le = omega arith;
-  shifted = omega arith;
-  next = omega arith;
-  done = record { front = refl; len = refl; key = λ q l. absurd (not-suc-le-zero l); other = λ p n. refl };
-}
+pub layouts_none : (s : Settings) (h start at size : ℕ) (old : List ℕ) → LayoutsFilled s h start at size 0 old old
+layouts_none s h start at size old = record { front = refl; len = refl; key = λ q l. absurd (not-suc-le-zero l); other = λ p n. refl }
 
 row_apart : (at size q r : ℕ) → 1 ≤ size → q < r → at + q * size ≢ at + r * size
 row_apart at size q r some lt e = let z : ⊥ = omega (arith, mul-le-mul_right size lt) in z
 
-module _ {s : Settings} {h start at size r shift k : ℕ} {old now : List ℕ} (some : 1 ≤ size) (room : at + layouts s * size < length old + size)
-    (a : Layering s h start at size r shift k old now) (lt : r < layouts s) where
-  row_end : r * size + size ≤ layouts s * size
-  row_end = omega (arith, mul-le-mul_right size lt)
-
+-- layout r is next
+module _ {s : Settings} {h start at size r : ℕ} {old now : List ℕ} (some : 1 ≤ size) (room : at + layouts s * size < length old + size)
+    (a : LayoutsFilled s h start at size r old now) (lt : r < layouts s) where
   -- the word is there
-  pub layering_in : k < length now
-  layering_in = omega (arith, a.next, a.done.len, row_end)
+  pub layouts_in : at + r * size < length now
+  layouts_in = omega (arith, a.len, mul-le-mul_right size lt)
 
-  pub layering_step : k + size ≤ at + layouts s * size
-  layering_step = omega (arith, a.next, row_end)
-
-  pub layering_more : {v bits : ℕ} → v ≡ ring_key s start r h → bits ≡ 64 / layouts s → Layering s h start at size (r + 1) (shift + bits) (k + size) old (set now k v)
-  layering_more {v} {bits} e eb = record {
-    le = omega arith;
-    shifted = omega (arith, a.shifted, eb);
-    next = omega (arith, a.next);
-    done = record {
-      front = front_set at now k v (omega (arith, a.next)) ∙ a.done.front;
-      len = length-set now k v ∙ a.done.len;
-      key = λ q l. ⊎_elim (here q) (there q l) (same_or_not q r);
-      other = λ p n.
-          get_or-set_other now k p v 0 (subst (λ (x : ℕ). p ≢ x) (sym a.next) (n r (omega arith)))
-          ∙ a.done.other p (λ q l. n q (omega arith));
-    };
+  pub layouts_more : {v : ℕ} → v ≡ ring_key s start r h → LayoutsFilled s h start at size (r + 1) old (set now (at + r * size) v)
+  layouts_more {v} e = record {
+    front = front_set at now (at + r * size) v (omega arith) ∙ a.front;
+    len = length-set now (at + r * size) v ∙ a.len;
+    key = λ q l. ⊎_elim (here q) (there q l) (same_or_not q r);
+    other = λ p n. get_or-set_other now (at + r * size) p v 0 (n r (omega arith)) ∙ a.other p (λ q l. n q (omega arith));
   }
     where
-      here : (q : ℕ) → q ≡ r → get_or (set now k v) (at + q * size) 0 ≡ ring_key s start q h
+      here : (q : ℕ) → q ≡ r → get_or (set now (at + r * size) v) (at + q * size) 0 ≡ ring_key s start q h
       here q eq =
-          subst (λ (x : ℕ). get_or (set now k v) (at + x * size) 0 ≡ ring_key s start x h) (sym eq)
-          (ap (λ (x : ℕ). get_or (set now k v) x 0) (sym a.next) ∙ get_or-set_same now k v 0 layering_in ∙ e)
+          subst (λ (x : ℕ). get_or (set now (at + r * size) v) (at + x * size) 0 ≡ ring_key s start x h) (sym eq)
+          (get_or-set_same now (at + r * size) v 0 layouts_in ∙ e)
 
-      there : (q : ℕ) → q < r + 1 → q ≢ r → get_or (set now k v) (at + q * size) 0 ≡ ring_key s start q h
+      there : (q : ℕ) → q < r + 1 → q ≢ r → get_or (set now (at + r * size) v) (at + q * size) 0 ≡ ring_key s start q h
       there q l ne =
           let below : q < r = omega arith in
-          get_or-set_other now k (at + q * size) v 0 (subst (λ (x : ℕ). at + q * size ≢ x) (sym a.next) (row_apart at size q r some below))
-          ∙ a.done.key q below
+          get_or-set_other now (at + r * size) (at + q * size) v 0 (row_apart at size q r some below) ∙ a.key q below
 
 -- ---- all hashes
 
@@ -136,15 +111,6 @@ keys_all {s} {hashes} {start} {at} {i} a h = record {
 -- ---- what the code computes
 
 module _ (g : Geometry) (made : Made g) where
-  -- a key by the numbers of the geometry
-  pub key_code : (h start r shift offset base o v : ℕ) → start ≤ slice_of g.settings h → shift ≡ r * (64 / layouts g.settings) → offset ≡ offset_of g.settings h
-      → base ≡ slice_of g.settings h + 95 - start → o ≡ (offset / 2 ^ shift + r * 2 ^ g.scale) % g.l → v ≡ packed g.stride base o → v ≡ ring_key g.settings start r h
-  unfolding ring_offset layout_offset
-  key_code h start r shift offset base o v le es eo eb ep ev =
-      let z = sized g made in
-      let place : o ≡ ring_offset g.settings r h = rw (ep, es, eo, z.scale_is, z.l_is) refl in
-      rw (ev, eb, place, z.stride_is) (key_packed g.settings start r h le)
-
   pub layouts_are : g.layouts ≡ layouts g.settings
   unfolding layouts
   layouts_are = (sized g made).layouts_is
@@ -153,10 +119,19 @@ module _ (g : Geometry) (made : Made g) where
   bits_are = (sized g made).bits_is ∙ ap (λ (x : ℕ). 64 / x) layouts_are
 
   -- a layout's shift is below 64
-  pub shift_small : (r shift : ℕ) → shift ≡ r * (64 / layouts g.settings) → r < layouts g.settings → shift < 64
-  shift_small r shift e lt =
+  pub shift_small : (r : ℕ) → r < layouts g.settings → r * g.layout_bits < 64
+  shift_small r lt =
       let z = sized g made in
-      rw (e) (shift_lt r (layouts g.settings) lt (rw (layouts_are) at z.layouts_low) (rw (layouts_are) at z.layouts_high))
+      rw (bits_are) (shift_lt r (layouts g.settings) lt (rw (layouts_are) at z.layouts_low) (rw (layouts_are) at z.layouts_high))
+
+  -- a key by the numbers of the geometry
+  pub key_code : (h start r offset base o v : ℕ) → start ≤ slice_of g.settings h → offset ≡ offset_of g.settings h
+      → base ≡ slice_of g.settings h + 95 - start → o ≡ (offset / 2 ^ (r * g.layout_bits) + r * 2 ^ g.scale) % g.l → v ≡ packed g.stride base o → v ≡ ring_key g.settings start r h
+  unfolding ring_offset layout_offset
+  key_code h start r offset base o v le eo eb ep ev =
+      let z = sized g made in
+      let place : o ≡ ring_offset g.settings r h = rw (ep, eo, bits_are, z.scale_is, z.l_is) refl in
+      rw (ev, eb, place, z.stride_is) (key_packed g.settings start r h le)
 
 -- `o & ((1 << t) - 1)`
 pub column_code : (t o : ℕ) → t ≤ 16 → bit_and o (1 * 2 ^ t % 2 ^ 64 - 1) ≡ o % 2 ^ t

@@ -3,7 +3,7 @@
 -- keys, and what is stored below `to` leaves the free words: each half goes on as if it were alone.
 -- Assumes nothing.
 use Rattle.std.specs.Prelude.{◌≡◌, refl, ◌≢◌, List, ℕ, ◌+◌, ◌-◌, ◌*◌, ◌/◌, ◌%◌, ◌^◌, ◌≤◌, ◌<◌, max, length, get_or, set, take}
-use Rattle.std.proofs.Common.{sym, ap, ◌∙◌, subst, ⊎_elim, arith, mul-le-mul_right, not-suc-le-zero, div-le_self, length-set, get_or-set_same, get_or-set_other}
+use Rattle.std.proofs.Common.{sym, ap, ◌∙◌, subst, ⊎_elim, arith, mul-le-mul_right, not-suc-le-zero, length-set, get_or-set_same, get_or-set_other}
 use Rattle.std.specs.Int.Bits.{bit_or}
 use Rattle.std.proofs.lemmas.List.{take-set-le}
 use Rattle.std.proofs.Math.Seq.{take-set-lt}
@@ -25,7 +25,7 @@ use Rattle.ring_keys.specs.RingKey.{ring_key, ring_keys, packed, KeysFilled}
 use Rattle.ring_keys.specs.HashLaws.{start_le, key_ok}
 use Rattle.ring_keys.specs.LayoutLaws.{map_at}
 use Rattle.ring_keys.specs.FilledLaws.{filled_part}
-use Rattle.ring_keys.specs.FillLaws.{layering_none, layering_more, key_code, layouts_are, bits_are, shift_small, KeysTo, keys_none, keys_more, keys_all}
+use Rattle.ring_keys.specs.FillLaws.{layouts_none, layouts_more, key_code, layouts_are, shift_small, KeysTo, keys_none, keys_more, keys_all}
 use Rattle.ring_keys.specs.Gathered.{RowReady, RowAdded, Below, HashReady, HashGathered, Ready, Gathered}
 
 -- ---- rows
@@ -41,24 +41,12 @@ row_added {g} {l} {d} {start} {p} {r} a = record { word = bit_or (get_or l p 0) 
 
 -- ---- one hash, all layouts
 
--- layout r is next, with its shift and its word
-pub record Adding (g : Geometry) (ring : Ring) (h start at size to r shift k : ℕ) (old now : List ℕ) : Type 0 where
-  pub le : r ≤ layouts g.settings
-  pub shifted : shift ≡ r * (64 / layouts g.settings)
-  pub next : k ≡ at + r * size
-  pub done : HashGathered g.settings ring h start at size to r old now
-
-pub adding_none : (g : Geometry) (ring : Ring) (h start at size to : ℕ) (old : List ℕ) → Adding g ring h start at size to 0 0 at old old
-adding_none g ring h start at size to old = record {
-  le = omega arith;
-  shifted = omega arith;
-  next = omega arith;
-  done = record {
-    keys = λ l e f. record { filled = l; done = (layering_none g.settings h start at size l).done; same = sym f };
-    len = refl;
-    rows = λ q l. absurd (not-suc-le-zero l);
-    after = λ p l. refl;
-  };
+pub hash_none : (s : Settings) (ring : Ring) (h start at size to : ℕ) (old : List ℕ) → HashGathered s ring h start at size to 0 old old
+hash_none s ring h start at size to old = record {
+  keys = λ l e f. record { filled = l; done = layouts_none s h start at size l; same = sym f };
+  len = refl;
+  rows = λ q l. absurd (not-suc-le-zero l);
+  after = λ p l. refl;
 }
 
 -- what is below the keys stays
@@ -76,94 +64,81 @@ set_below_lem to now filled k p v w lt le e =
     ∙ ap (λ (x : List ℕ). set x k v) e
     ∙ sym (take-set-lt to filled k v lt)
 
-module _ {g : Geometry} {ring : Ring} {h start at size to r shift k : ℕ} {old now : List ℕ} (ready : HashReady g ring h start at size to old)
-    (a : Adding g ring h start at size to r shift k old now) (lt : r < g.layouts) where
+-- layout r is next
+module _ {g : Geometry} {ring : Ring} {h start at size to r : ℕ} {old now : List ℕ} (ready : HashReady g ring h start at size to old)
+    (a : HashGathered g.settings ring h start at size to r old now) (lt : r < g.layouts) where
   below : r < layouts g.settings
   below = omega (arith, layouts_are g ready.made)
 
-  row_end : r * size + size ≤ layouts g.settings * size
-  row_end = omega (arith, mul-le-mul_right size below)
-
-  pub adding_place : (shift < 64) × (r < 64)
-  adding_place = (shift_small g ready.made r shift a.shifted below, omega (arith, (sized g ready.made).layouts_high))
+  pub hash_shift : (r * g.layout_bits < 64) × (r < 64)
+  hash_shift = (shift_small g ready.made r below, omega (arith, (sized g ready.made).layouts_high))
 
   -- the key's word is below the free words
-  pub adding_key : k < to
-  adding_key = omega (arith, a.next, row_end, ready.keys)
+  pub hash_key : at + r * size < to
+  hash_key = omega (arith, mul-le-mul_right size below, ready.keys)
 
   -- and the layout's word is one of the list's
-  pub adding_word : to + r < length now
-  adding_word = omega (arith, below, ready.free, a.done.len)
-
-  pub adding_next : k + size < to + size
-  adding_next = omega (arith, a.next, row_end, ready.keys)
-
-  pub adding_bits : shift + g.layout_bits < 128
-  adding_bits = omega (arith, adding_place.0, bits_are g ready.made, div-le_self 64 (layouts g.settings))
+  pub hash_word : to + r < length now
+  hash_word = omega (arith, below, ready.free, a.len)
 
   -- the key that the code makes, by the slice and the offset of h
-  pub adding_code : {slice offset o v : ℕ} → slice ≡ slice_of g.settings h → offset ≡ offset_of g.settings h → o ≡ (offset / 2 ^ shift + r * 2 ^ g.scale) % g.l
+  pub hash_code : {slice offset o v : ℕ} → slice ≡ slice_of g.settings h → offset ≡ offset_of g.settings h → o ≡ (offset / 2 ^ (r * g.layout_bits) + r * 2 ^ g.scale) % g.l
       → v ≡ packed g.stride (slice + 95 - start) o → v ≡ ring_key g.settings start r h
-  adding_code {slice} {offset} {o} {v} es eo ep ev =
-      key_code g ready.made h start r shift offset (slice + 95 - start) o v ready.begins a.shifted eo (ap (λ (x : ℕ). x + 95 - start) es) ep ev
+  hash_code {slice} {offset} {o} {v} es eo ep ev =
+      key_code g ready.made h start r offset (slice + 95 - start) o v ready.begins eo (ap (λ (x : ℕ). x + 95 - start) es) ep ev
 
   -- what `add_row` asks for
-  pub adding_row : {v : ℕ} → v ≡ ring_key g.settings start r h → RowReady ring v start (to + r) (set now k v)
-  adding_row {v} e =
-      let n : length (set now k v) ≡ length now = length-set now k v in
+  pub hash_row : {v : ℕ} → v ≡ ring_key g.settings start r h → RowReady ring v start (to + r) (set now (at + r * size) v)
+  hash_row {v} e =
+      let n : length (set now (at + r * size) v) ≡ length now = length-set now (at + r * size) v in
       record {
         shape = ready.shape;
         short = ready.short;
-        above = omega (arith, ready.above, adding_key, adding_word, a.next);
+        above = omega (arith, ready.above, hash_key, hash_word);
         key = rw e (ready.key r);
         low = ready.low;
-        word = omega (arith, adding_word);
+        word = omega (arith, hash_word);
       }
 
-  module _ {v word : ℕ} (e : v ≡ ring_key g.settings start r h) (j : Added ring (set now k v) v start 0 (get_or (set now k v) (to + r) 0) word) where
+  module _ {v word : ℕ} (e : v ≡ ring_key g.settings start r h) (j : Added ring (set now (at + r * size) v) v start 0 (get_or (set now (at + r * size) v) (to + r) 0) word) where
     -- a free word that is not the layout's
-    other_same : (p : ℕ) → to ≤ p → p ≢ to + r → get_or (set (set now k v) (to + r) word) p 0 ≡ get_or now p 0
-    other_same p le ne = get_or-set_other (set now k v) (to + r) p word 0 ne ∙ get_or-set_other now k p v 0 (λ x. let z : ⊥ = omega (arith, adding_key) in z)
+    other_same : (p : ℕ) → to ≤ p → p ≢ to + r → get_or (set (set now (at + r * size) v) (to + r) word) p 0 ≡ get_or now p 0
+    other_same p le ne =
+        get_or-set_other (set now (at + r * size) v) (to + r) p word 0 ne
+        ∙ get_or-set_other now (at + r * size) p v 0 (λ x. let z : ⊥ = omega (arith, hash_key) in z)
 
     -- the layout's word as it was, and the ring
-    word_same : get_or (set now k v) (to + r) 0 ≡ get_or old (to + r) 0
-    word_same = get_or-set_other now k (to + r) v 0 (λ x. let z : ⊥ = omega (arith, adding_key) in z) ∙ a.done.after (to + r) (omega arith)
+    word_same : get_or (set now (at + r * size) v) (to + r) 0 ≡ get_or old (to + r) 0
+    word_same = get_or-set_other now (at + r * size) (to + r) v 0 (λ x. let z : ⊥ = omega (arith, hash_key) in z) ∙ a.after (to + r) (omega arith)
 
-    used_same : take ring.words (set now k v) ≡ take ring.words old
+    used_same : take ring.words (set now (at + r * size) v) ≡ take ring.words old
     used_same =
-        take-set-le ring.words now k v (omega (arith, a.next, ready.above))
-        ∙ hash_front ring.words ready.above (omega (arith, row_end, ready.keys)) a.done
+        take-set-le ring.words now (at + r * size) v (omega (arith, ready.above))
+        ∙ hash_front ring.words ready.above (omega (arith, hash_key)) a
 
     row_here : Added ring old (ring_key g.settings start r h) start 0 (get_or old (to + r) 0) word
     row_here = subst (λ (d : ℕ). Added ring old d start 0 (get_or old (to + r) 0) word) e (added_same ready.shape old used_same (rw word_same at j))
 
-    row_all : (q : ℕ) → q < r + 1 → Added ring old (ring_key g.settings start q h) start 0 (get_or old (to + q) 0) (get_or (set (set now k v) (to + r) word) (to + q) 0)
+    row_all : (q : ℕ) → q < r + 1 → Added ring old (ring_key g.settings start q h) start 0 (get_or old (to + q) 0) (get_or (set (set now (at + r * size) v) (to + r) word) (to + q) 0)
     row_all q l =
         ⊎_elim
-        (λ (x : q ≡ r). rw (x, get_or-set_same (set now k v) (to + r) word 0 (rw (length-set now k v) adding_word)) row_here)
-        (λ (x : q ≢ r). rw (other_same (to + q) (omega arith) (λ y. x (omega arith))) (a.done.rows q (omega arith)))
+        (λ (x : q ≡ r). rw (x, get_or-set_same (set now (at + r * size) v) (to + r) word 0 (rw (length-set now (at + r * size) v) hash_word)) row_here)
+        (λ (x : q ≢ r). rw (other_same (to + q) (omega arith) (λ y. x (omega arith))) (a.rows q (omega arith)))
         (same_or_not q r)
 
-    adding_stored : Adding g ring h start at size to (r + 1) (shift + g.layout_bits) (k + size) old (set (set now k v) (to + r) word)
-    adding_stored = record {
-      le = omega (arith, below);
-      shifted = omega (arith, a.shifted, bits_are g ready.made);
-      next = omega (arith, a.next);
-      done = record {
-        keys = λ l el f.
-            let x = a.done.keys l el f in
-            let more = layering_more {old = l} {now = x.filled} ready.some (omega (arith, ready.keys, ready.free, el)) (record { le = a.le; shifted = a.shifted; next = a.next; done = x.done }) below e (bits_are g ready.made) in
-            record { filled = set x.filled k v; done = more.done; same = set_below_lem to now x.filled k (to + r) v word adding_key (omega arith) x.same };
-        len = length-set (set now k v) (to + r) word ∙ length-set now k v ∙ a.done.len;
-        rows = row_all;
-        after = λ p l. other_same p (omega arith) (omega arith) ∙ a.done.after p (omega arith);
-      };
+    hash_stored : HashGathered g.settings ring h start at size to (r + 1) old (set (set now (at + r * size) v) (to + r) word)
+    hash_stored = record {
+      keys = λ l el f.
+          let x = a.keys l el f in
+          record { filled = set x.filled (at + r * size) v; done = layouts_more ready.some (omega (arith, ready.keys, ready.free, el)) x.done below e; same = set_below_lem to now x.filled (at + r * size) (to + r) v word hash_key (omega arith) x.same };
+      len = length-set (set now (at + r * size) v) (to + r) word ∙ length-set now (at + r * size) v ∙ a.len;
+      rows = row_all;
+      after = λ p l. other_same p (omega arith) (omega arith) ∙ a.after p (omega arith);
     }
 
-  pub adding_more : {v : ℕ} {now' : List ℕ} → v ≡ ring_key g.settings start r h → RowAdded ring (set now k v) v start (to + r) now'
-      → Adding g ring h start at size to (r + 1) (shift + g.layout_bits) (k + size) old now'
-  adding_more {v} {now'} e b =
-      subst (λ (x : List ℕ). Adding g ring h start at size to (r + 1) (shift + g.layout_bits) (k + size) old x) (sym b.stored) (adding_stored e b.added)
+  pub hash_more : {v : ℕ} {now' : List ℕ} → v ≡ ring_key g.settings start r h → RowAdded ring (set now (at + r * size) v) v start (to + r) now'
+      → HashGathered g.settings ring h start at size to (r + 1) old now'
+  hash_more {v} {now'} e b = subst (λ (x : List ℕ). HashGathered g.settings ring h start at size to (r + 1) old x) (sym b.stored) (hash_stored e b.added)
 
 -- ---- all hashes
 

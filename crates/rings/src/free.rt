@@ -9,27 +9,13 @@ ghost use Rattle.rings.specs.Blocked.{Cleared, BegunFree, Own, TurnedOver, Finis
 
 use crate::Ring;
 use crate::stream::or_key;
+use words::filling::fill;
 
 // The first word of layout 0 with the barred rotation alone, which is rotation 0 where n = R.
 fn bar(g: Ring) -> u64
     ensures { Bar g 0 0 result }
 {
-    if g.n != g.rotations {
-        return 0;
-    }
-    1
-}
-
-// Writes 0 to work[to..to + words].
-fn clear_words(work: &mut [u64], to: usize, words: usize)
-    requires { to + words ≤ length work.old }
-    ensures { Cleared work.old to words work.new }
-{
-    let mut i = 0;
-    while i < words {
-        work[to + i] = 0;
-        i += 1;
-    }
+    u64::from(g.n == g.rotations)
 }
 
 // Writes the barred rotation alone to the words of all layouts, which are count each from `to` on: it is bit 0 of the first of them.
@@ -38,11 +24,10 @@ pub fn begin_free(g: Ring, work: &mut [u64], to: usize, layouts: usize, count: u
     ensures { BegunFree g work.old to layouts count work.new }
 {
     let words = layouts * count;
-    clear_words(work, to, words);
-    if words == 0 {
-        return;
+    fill(&mut work[to..to + words], 0);
+    if words != 0 {
+        work[to] = bar(g);
     }
-    work[to] = bar(g);
 }
 
 // The low n bits, and all of them from 64 on.
@@ -58,12 +43,9 @@ fn turn_over(work: &mut [u64], to: usize, words: usize, own: u64) -> u64
     ensures { TurnedOver work.old to words own result work.new }
 {
     let mut total = 0;
-    let mut i = 0;
-    while i < words {
-        let f = (u64::MAX - work[to + i]) & own;
-        work[to + i] = f;
-        total += u64::count_ones(f) as u64;
-        i += 1;
+    for word in work[to..to + words].iter_mut() {
+        *word = !*word & own;
+        total += u64::from(word.count_ones());
     }
     total
 }
@@ -95,11 +77,9 @@ fn or_layouts(
     requires start_bound { start < 2 ^ 62 }
     ensures { LayoutsAdded g work.old (at + i) size start to count layouts work.new }
 {
-    let mut r = 0;
-    while r < layouts {
+    for r in 0..layouts {
         let d = work[at + r * size + i];
         or_key(g, work, d, start, to + r * count, count);
-        r += 1;
     }
 }
 
@@ -122,10 +102,8 @@ pub fn fill_free(
     ensures { FilledTo g work.old at size start to count layouts result work.new }
 {
     begin_free(g, work, to, layouts, count);
-    let mut i = 0;
-    while i < size {
+    for i in 0..size {
         or_layouts(g, work, at, size, i, layouts, start, to, count);
-        i += 1;
     }
     finish_free(g, work, to, layouts * count)
 }

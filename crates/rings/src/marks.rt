@@ -14,7 +14,7 @@ pub fn unmark(g: Ring, work: &mut [u64], p: usize)
 {
     let w = word_of(g, p);
     let b = bit_of(g, p);
-    work[w] = work[w] & (u64::MAX - (1u64 << b));
+    work[w] &= !(1 << b);
 }
 
 // Marks slot p if it is free; tells whether it was.
@@ -29,6 +29,6 @@ pub fn take_slot(g: Ring, work: &mut [u64], p: usize) -> bool
     if (x >> b) % 2 == 1 {
         return false;
     }
-    work[w] = x | (1u64 << b);
+    work[w] = x | (1 << b);
     true
 }

@@ -17,15 +17,13 @@ fn mark_keys(g: Ring, work: &mut [u64], at: usize, size: usize, start: usize, j:
     requires start_bound { (start < 2 ^ 62) × (j < 65536) }
     ensures { MarkedUpTo g work.old (part work.old at size) start j size result work.new }
 {
-    let mut i = 0;
-    while i < size {
+    for i in 0..size {
         let p = slot_of(g, work[at + i], j, start);
         if !take_slot(g, work, p) {
             return i;
         }
-        i += 1;
     }
-    i
+    size
 }
 
 // Unmarks the slots of the first count keys at work[at..at + size] at rotation j, from the last to the first.
@@ -44,9 +42,7 @@ fn unmark_keys(
     requires start_bound { (start < 2 ^ 62) × (j < 65536) }
     ensures { work.new ≡ unmarked_to g work.old (part work.old at size) start j count }
 {
-    let mut i = count;
-    while 0 < i {
-        i -= 1;
+    for i in (0..count).rev() {
         let p = slot_of(g, work[at + i], j, start);
         unmark(g, work, p);
     }
@@ -79,9 +75,8 @@ pub fn fits(g: Ring, work: &mut [u64], at: usize, size: usize, start: usize, j: 
     let placed = place(g, work, at, size, start, j);
     if placed {
         unmark_keys(g, work, at, size, start, j, size);
-        return true;
     }
-    false
+    placed
 }
 
 // Marks the keys' slots at rotation j in the bitmap.
@@ -92,10 +87,8 @@ pub fn mark_bitmap(g: Ring, keys: &[u64], start: usize, j: usize, bitmap: &mut [
     requires in_map { InMap g keys.now start j (length bitmap.old) }
     ensures { bitmap.new ≡ map_to g bitmap.old keys.now start j (length keys.now) }
 {
-    let mut i = 0;
-    while i < keys.len() {
-        let p = slot_of(g, keys[i], j, start);
+    for d in keys {
+        let p = slot_of(g, *d, j, start);
         words::set_bit(bitmap, p);
-        i += 1;
     }
 }

@@ -32,14 +32,12 @@ fn or_ring(g: Ring, work: &mut [u64], first: usize, x: usize, to: usize, count: 
     let s = bit_of(g, first);
     let last = g.n / 64 - 1;
     let mut k = x / 64;
-    let mut low = ring_word(g, &work[..], base, s, k);
-    let mut i = 0;
-    while i < count {
+    let mut low = ring_word(g, work, base, s, k);
+    for i in 0..count {
         k = (k + 1) & last;
-        let high = ring_word(g, &work[..], base, s, k);
-        work[to + i] = work[to + i] | join(low, high, x % 64);
+        let high = ring_word(g, work, base, s, k);
+        work[to + i] |= join(low, high, x % 64);
         low = high;
-        i += 1;
     }
 }
 

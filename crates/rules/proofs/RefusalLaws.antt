@@ -1,12 +1,12 @@
 -- Each refusal has a number above 0. So where a part of the lines refuses, the lines that come after change nothing. Assumes nothing.
-use mathlib.Core.Path.{◌≡◌, refl, sym, ◌∙◌}
+use mathlib.Core.Path.{◌≡◌, refl, sym, ap, ◌∙◌}
 use mathlib.Core.List.{List, [], ◌++◌}
 use Prim.Native.Nat.{ℕ, zero, suc, ◌≤◌}
 use native.Mathlib.Omega.{arith}
 use Rattle.std.specs.Prelude.{Result, Ok, Err, ⊤}
 use Rattle.rules.specs.declared.Refusal as R
 use Rattle.rules.specs.declared.Refusal.TheVariants as Why
-use Rattle.rules.specs.Answers.{Answer, Refusal, number_of, refused_by, said_checked, unless}
+use Rattle.rules.specs.Answers.{Said, Answer, Refusal, number_of, refused_by, said_checked, unless}
 use Rattle.rules.specs.Numbers.{Line, first_of}
 use Rattle.rules.proofs.Lines.{first_append_some}
 
@@ -45,12 +45,14 @@ number_positive Why.Bitmap = omega arith
 pub refused_first : (xs ys : List Line) (why : R.Refusal) → number_of why ≡ first_of xs → number_of why ≡ first_of (xs ++ ys)
 refused_first xs ys why e = e ∙ sym (first_append_some xs ys (λ z. let p = number_positive why in omega (arith, e, z)))
 
+-- a number that applies is what a call says
+pub refused_says : (why : R.Refusal) (n : ℕ) (answer : Said) → number_of why ≡ n → Refusal (number_of why) [] ≡ unless n answer
+unfolding unless
+refused_says why zero answer e = absurd (let p = number_positive why in omega (arith, e))
+refused_says why (suc n) answer e = ap (λ (k : ℕ). Refusal k []) e
+
 -- a check that refuses by a number says it
 pub checked_says : (r : Result ⊤ R.Refusal) (n : ℕ) → refused_by r ≡ n → said_checked r ≡ unless n (Answer [])
 unfolding said_checked unless
 checked_says (Ok done) n e = rw (sym e) refl
-checked_says (Err why) n e = rw (sym e) (refused (number_of why) (number_positive why))
-  where
-    refused : (k : ℕ) → 1 ≤ k → Refusal k [] ≡ unless k (Answer [])
-    refused zero h = absurd (omega arith)
-    refused (suc k) h = refl
+checked_says (Err why) n e = refused_says why n (Answer []) e

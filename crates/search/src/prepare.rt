@@ -2,15 +2,16 @@
 ghost use Rattle.ring_keys.specs.Gathered.{Gathered};
 ghost use Rattle.search.specs.Preparing.{Preparing};
 
-use crate::usual::{literal, literal_ring, usual};
+use crate::usual::literal_ring;
 use geometry::shape::Geometry;
+use geometry::usual::{literal, usual};
 use ring_keys::fill::fill_keys;
-use ring_keys::gather::{gather, gather_64};
+use ring_keys::gather::gather;
 use rings::Ring;
 use rings::free::fill_free;
 
 // Writes the ring keys of the bucket's hashes from work[at] on and its free words from work[to] on, and tells how many rotations are free. Where
-// a layout has one free word both come of one pass; `gather` and `gather_64` are called from nowhere else, so that they are inlined.
+// a layout has one free word both come of one pass; either instance of `gather` is called from nowhere else, so that it is inlined.
 pub fn prepare(
     g: Geometry,
     ring: Ring,
@@ -25,11 +26,10 @@ pub fn prepare(
     ensures { Gathered g.settings ring keys.now start at to count work.old result work.new }
 {
     if usual(g) {
-        return gather_64(literal(g), literal_ring(ring), keys, start, work, at, to);
+        return gather::<true>(literal(g), literal_ring(ring), keys, start, work, at, to);
     }
-    let n = ring.n;
-    if n <= 64 {
-        return gather(g, ring, keys, start, work, at, to);
+    if ring.n <= 64 {
+        return gather::<false>(g, ring, keys, start, work, at, to);
     }
     fill_keys(g, keys, start, work, at);
     fill_free(

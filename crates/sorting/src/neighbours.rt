@@ -6,12 +6,10 @@ ghost use Rattle.sorting.specs.Runs.{twins};
 pub fn equal_neighbours(run: &[u64]) -> bool
     ensures { result ≡ twins run.now }
 {
-    let mut i = 0;
-    while i + 1 < run.len() {
-        if run[i] == run[i + 1] {
+    for pair in run.windows(2) {
+        if pair[0] == pair[1] {
             return true;
         }
-        i += 1;
     }
     false
 }

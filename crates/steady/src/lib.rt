@@ -55,8 +55,5 @@ pub fn sweep_both(
     let other = sweep(
         settings, weights, how, hashes2, begins2, table, seeds2, bitmap2, work2,
     );
-    Both {
-        one: one,
-        other: other,
-    }
+    Both { one, other }
 }

@@ -9,12 +9,12 @@ use native.Mathlib.Omega.{arith}
 use Rattle.words.specs.Map.{Words}
 use Rattle.rules.specs.declared.How.{How}
 use Rattle.rules.specs.declared.Counts.{Counts}
-use Rattle.rules.specs.declared.Named.TheVariants.{Bucket}
-use Rattle.rules.specs.declared.Outcome.TheVariants.{Done, Refused}
+use Rattle.rules.specs.declared.Refusal as R
+use Rattle.std.specs.Prelude.{Ok, Err, Some}
 use Rattle.rules.specs.Numbers.{lent_of, first_of, sweep_lines}
 use Rattle.rules.specs.Order.{Input, by_low_bits}
 use Rattle.rules.specs.Sweep.{final_seeds, final_bitmap}
-use Rattle.rules.specs.Answers.{Answer, Refusal, said_sweep, said_outcome, named_by, unless, ran_answer, counts_of, count_values, sweep_turns, stops_at, sweep_number, sweep_answer}
+use Rattle.rules.specs.Answers.{Answer, Refusal, number_of, said_sweep, said_outcome, said_stop, named_by, unless, ran_answer, counts_of, count_values, sweep_turns, stops_at, sweep_number, sweep_answer}
 use Rattle.rules.proofs.AnswerLaws as Laws
 use Rattle.rules.proofs.Theorems.{Swept, Stopped, swept_low, stopped}
 use Rattle.sweep.specs.Performing.{Left}
@@ -41,7 +41,7 @@ pub record Finished (chunks : ℕ) (i : Input) (c : Counts) (seeds' bitmap' : Li
   pub counts_are : count_values c ≡ count_values (counts_of i (final_seeds i (sweep_turns by_low_bits chunks i)))
 
 pub finished : {i : Input} {how : How} {seeds bitmap work seeds' bitmap' work' : List ℕ} {c : Counts}
-    → Left i how seeds bitmap work (record { outcome = Done c }) seeds' bitmap' work' → Words i.hashes → Finished how.chunks i c seeds' bitmap'
+    → Left i how seeds bitmap work (record { outcome = Ok c }) seeds' bitmap' work' → Words i.hashes → Finished how.chunks i c seeds' bitmap'
 unfolding said_sweep said_outcome sweep_answer sweep_number
 finished {i} {how} {seeds} {bitmap} {work} {c = c} l w =
     let n = first_of (sweep_lines how i (lent_of seeds bitmap work)) in
@@ -58,10 +58,10 @@ finished {i} {how} {seeds} {bitmap} {work} {c = c} l w =
     values e = cc
 
 -- and of one that ended at a bucket that nothing fits, bumping forbidden
-pub halted : {i : Input} {how : How} {seeds bitmap work seeds' bitmap' work' : List ℕ} {k b : ℕ}
-    → Left i how seeds bitmap work (record { outcome = Refused k (Bucket b) }) seeds' bitmap' work' → Words i.hashes → Stopped by_low_bits how.chunks i b
-unfolding said_sweep said_outcome named_by sweep_answer sweep_number
-halted {i} {how} {seeds} {bitmap} {work} {k = k} {b = b} l w =
+pub halted : {i : Input} {how : How} {seeds bitmap work seeds' bitmap' work' : List ℕ} {why : R.Refusal} {b : ℕ}
+    → Left i how seeds bitmap work (record { outcome = Err (record { why = why; bucket = Some b }) }) seeds' bitmap' work' → Words i.hashes → Stopped by_low_bits how.chunks i b
+unfolding said_sweep said_outcome said_stop named_by sweep_answer sweep_number
+halted {i} {how} {seeds} {bitmap} {work} {why = why} {b = b} l w =
     let n = first_of (sweep_lines how i (lent_of seeds bitmap work)) in
-    let r = named_bucket n k b (stops_at by_low_bits how i) (counts_of i (final_seeds i (sweep_turns by_low_bits how.chunks i))) l.answer in
+    let r = named_bucket n (number_of why) b (stops_at by_low_bits how i) (counts_of i (final_seeds i (sweep_turns by_low_bits how.chunks i))) l.answer in
     stopped by_low_bits how i (lent_of seeds bitmap work) r.0 w b r.1

@@ -23,8 +23,7 @@ use Rattle.rules.proofs.StopLaws.{fails_append}
 use Rattle.rules.proofs.PlacedLaws.{Proper}
 use Rattle.rules.proofs.ChunkLaws.{count_pos, count_room, inside_at, ranges_cover, orders_proper, orders_join}
 use Rattle.geometry.specs.declared.shape.Geometry.{Geometry}
-use Rattle.sweep.specs.declared.turning.Ended.{Ended}
-use Rattle.sweep.specs.declared.turning.Ended.TheVariants.{All, At}
+use Rattle.std.specs.Prelude.{Result, Ok, Err, ⊤}
 use Rattle.sweep.specs.Sweeping.{Fresh, through, end_by, end_of, Ending, Resting, Next, Ran}
 use Rattle.sweep.proofs.StartLaws.{end_some, rests_next}
 use Rattle.sweep.proofs.RangeLaws.{ranges_long}
@@ -80,7 +79,7 @@ module _ {i : Input} {g : Geometry} {bump : Bool} {hashes begins table : List �
       }
 
   -- the last range is done
-  pub ran_all : (how : How) → how.bump ≡ bump → how.chunks ≡ c → length (ranges i.settings c) ≤ k → Ran i how All seeds bitmap
+  pub ran_all : (how : How) → how.bump ≡ bump → how.chunks ≡ c → length (ranges i.settings c) ≤ k → Ran i how (Ok tt) seeds bitmap
   unfolding stops_at sweep_turns final_bitmap
   ran_all how eb ec h =
       let e : up_to i (ranges i.settings c) k ≡ sweep_turns by_low_bits how.chunks i = up_all i (ranges i.settings c) k h ∙ ap (λ (n : ℕ). orders_of by_low_bits i (ranges i.settings n)) (sym ec) in
@@ -93,26 +92,26 @@ module _ {i : Input} {g : Geometry} {bump : Bool} {hashes begins table : List �
         );
       }
     where
-      none_stopped : (b : Bool) → b ≡ bump → {turns : List ℕ} → up_to i (ranges i.settings c) k ≡ turns → All ≡ end_by (cond b none (fails_at i turns))
+      none_stopped : (b : Bool) → b ≡ bump → {turns : List ℕ} → up_to i (ranges i.settings c) k ≡ turns → Ok tt ≡ end_by (cond b none (fails_at i turns))
       none_stopped true q e = refl
       none_stopped false q e = ap end_by (sym (ap (fails_at i) (sym e) ∙ rest.no_zero (sym q)))
 
 -- a range that ended at a bucket ends the sweep
-pub ran_at : {i : Input} {bump : Bool} (c k : ℕ) {lo hi b : ℕ} {r : Ended} {seeds bitmap seeds' bitmap' : List ℕ} → k < length (ranges i.settings c) → range lo hi ≡ get_or (ranges i.settings c) k (range 0 0)
-    → Ending i bump (up_to i (ranges i.settings c) k) lo hi r seeds bitmap → r ≡ At b → (how : How) → how.bump ≡ bump → how.chunks ≡ c → Ran i how (At b) seeds' bitmap'
+pub ran_at : {i : Input} {bump : Bool} (c k : ℕ) {lo hi b : ℕ} {r : Result ⊤ ℕ} {seeds bitmap seeds' bitmap' : List ℕ} → k < length (ranges i.settings c) → range lo hi ≡ get_or (ranges i.settings c) k (range 0 0)
+    → Ending i bump (up_to i (ranges i.settings c) k) lo hi r seeds bitmap → r ≡ Err b → (how : How) → how.bump ≡ bump → how.chunks ≡ c → Ran i how (Err b) seeds' bitmap'
 unfolding stops_at sweep_turns
 ran_at {i} {bump} c k {lo} {hi} {b} {r} h e f at_b how eb ec = record { answer = go how.bump eb; swept = λ q. absurd (other q) }
   where
-    other : At b ≡ All → ⊥
+    other : Err b ≡ Ok (tt {0}) → ⊥
     other q = let z : ◌≡◌ {A = ℕ} 0 1 = cc in omega arith
 
     same : through i (up_to i (ranges i.settings c) k) lo hi ≡ up_to i (ranges i.settings c) (k + 1)
     same = ap (λ (r : Range). through i (up_to i (ranges i.settings c) k) r.lo r.hi) e ∙ sym (up_next i (ranges i.settings c) k h)
 
-    go : (t : Bool) → t ≡ bump → At b ≡ end_by (cond t none (fails_at i (orders_of by_low_bits i (ranges i.settings how.chunks))))
+    go : (t : Bool) → t ≡ bump → Err b ≡ end_by (cond t none (fails_at i (orders_of by_low_bits i (ranges i.settings how.chunks))))
     go true q = absurd (other (sym at_b ∙ f.answer ∙ ap (λ (u : Bool). end_of u i (through i (up_to i (ranges i.settings c) k) lo hi)) (sym q)))
     go false q =
-        let at : At b ≡ end_by (fails_at i (through i (up_to i (ranges i.settings c) k) lo hi)) = sym at_b ∙ f.answer ∙ ap (λ (u : Bool). end_of u i (through i (up_to i (ranges i.settings c) k) lo hi)) (sym q) in
+        let at : Err b ≡ end_by (fails_at i (through i (up_to i (ranges i.settings c) k) lo hi)) = sym at_b ∙ f.answer ∙ ap (λ (u : Bool). end_of u i (through i (up_to i (ranges i.settings c) k) lo hi)) (sym q) in
         let fails = ap (fails_at i) (sym same) ∙ end_some (fails_at i (through i (up_to i (ranges i.settings c) k) lo hi)) b at in
         ap end_by (sym (ap (λ (n : ℕ). fails_at i (orders_of by_low_bits i (ranges i.settings n))) ec ∙ ap (fails_at i) (up_left i (ranges i.settings c) (k + 1)) ∙ fails_append i (up_to i (ranges i.settings c) (k + 1)) (left i (ranges i.settings c) (k + 1)) b fails))
 
@@ -149,7 +148,7 @@ rests_first c r = r
 pub rests_more : {i : Input} {g : Geometry} {bump : Bool} {hashes begins table : List ℕ} {weights : List ℤ} {z : ℕ} (c k : ℕ) {lo hi : ℕ} {seeds bitmap work : List ℕ}
     → k < length (ranges i.settings c) → range lo hi ≡ get_or (ranges i.settings c) k (range 0 0)
     → Next i g bump hashes begins table weights (up_to i (ranges i.settings c) k) lo hi z seeds bitmap work
-    → {r : Ended} {seeds' bitmap' work' : List ℕ} → Ending i bump (up_to i (ranges i.settings c) k) lo hi r seeds' bitmap' → r ≡ All → length work' ≡ length work
+    → {r : Result ⊤ ℕ} {seeds' bitmap' work' : List ℕ} → Ending i bump (up_to i (ranges i.settings c) k) lo hi r seeds' bitmap' → r ≡ Ok tt → length work' ≡ length work
     → Resting i g bump hashes begins table weights (up_to i (ranges i.settings c) (k + 1)) z seeds' bitmap' work'
 rests_more {i} {g} {bump} {hashes} {begins} {table} {weights} {z} c k {lo} {hi} h e n {r} {seeds'} {bitmap'} {work'} f all l =
     subst (λ (pre : List ℕ). Resting i g bump hashes begins table weights pre z seeds' bitmap' work') (through_next i c k lo hi h e) (rests_next n f all l)

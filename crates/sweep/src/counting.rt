@@ -13,20 +13,18 @@ pub fn counted(begins: &[u32], seeds: &[u16]) -> Counts
     let mut placed: u64 = 0;
     let mut bumped: u64 = 0;
     let mut zero: u64 = 0;
-    let mut b = 0;
-    while b < seeds.len() {
+    for (b, seed) in seeds.iter().enumerate() {
         let size = size_of(begins, b) as u64;
-        if seeds[b] == 0 {
+        if *seed == 0 {
             bumped += size;
             zero += 1;
         } else {
             placed += size;
         }
-        b += 1;
     }
     Counts {
-        placed: placed,
-        bumped: bumped,
-        zero: zero,
+        placed,
+        bumped,
+        zero,
     }
 }

@@ -9,33 +9,15 @@ ghost use Rattle.rules.specs.Answers.{said_sweep, sweep_answer, sweep_seeds, swe
 ghost use Rattle.sweep.specs.Performing.{Performing, Left};
 
 pub mod chunks;
-pub mod clearing;
 pub mod counting;
 pub mod moving;
 pub mod turning;
 
-use self::clearing::{clear, clear_seeds};
 use self::counting::counted;
-use self::turning::{Ended, run};
+use self::turning::run;
 use checks::check_all;
 use geometry::shape::{Geometry, geometry_of};
-use rules::{Counts, How, Named, Outcome, Settings, SweepRecord};
-
-fn refused(number: u64, named: Named) -> SweepRecord
-    ensures { result ≡ record { outcome = Outcome.Refused number named } }
-{
-    SweepRecord {
-        outcome: Outcome::Refused(number, named),
-    }
-}
-
-fn done(counts: Counts) -> SweepRecord
-    ensures { result ≡ record { outcome = Outcome.Done counts } }
-{
-    SweepRecord {
-        outcome: Outcome::Done(counts),
-    }
-}
+use rules::{Counts, How, Refusal, Settings, Stop, SweepRecord};
 
 // The sweep of an input whose checks have passed. The first `words` words of work are used, and zero in the end.
 fn perform(
@@ -50,15 +32,13 @@ fn perform(
     seeds: &mut [u16],
     bitmap: &mut [u64],
     work: &mut [u64],
-) -> SweepRecord
+) -> Result<Counts, Stop>
     requires { Performing (input_of g.settings weights hashes.now begins.now table.now) how g z words seeds.old bitmap.old work.old }
     ensures { Left (input_of g.settings weights hashes.now begins.now table.now) how
-        seeds.old bitmap.old work.old result seeds.new bitmap.new work.new }
+        seeds.old bitmap.old work.old (record { outcome = result }) seeds.new bitmap.new work.new }
 {
-    let size = bitmap.len();
-    clear_seeds(seeds);
-    clear(bitmap, size);
-    clear(work, words);
+    seeds.fill(0);
+    bitmap.fill(0);
     let ended = run(
         g,
         weights,
@@ -71,15 +51,57 @@ fn perform(
         bitmap,
         &mut work[..words],
     );
-    clear(work, words);
-    match ended {
-        Ended::All => done(counted(begins, seeds)),
-        Ended::At(b) => {
-            clear_seeds(seeds);
-            clear(bitmap, size);
-            refused(14, Named::Bucket(b))
-        }
+    work[..words].fill(0);
+    if let Err(b) = ended {
+        seeds.fill(0);
+        bitmap.fill(0);
+        return Err(Stop {
+            why: Refusal::NoSeed,
+            bucket: Some(b),
+        });
     }
+    Ok(counted(begins, seeds))
+}
+
+// The checks, and the sweep where none of them applies.
+fn checked_sweep(
+    settings: Settings,
+    weights: [i64; 7],
+    how: How,
+    hashes: &[u64],
+    begins: &[u32],
+    table: &[u32],
+    seeds: &mut [u16],
+    bitmap: &mut [u64],
+    work: &mut [u64],
+) -> Result<Counts, Stop>
+    ensures { Left (input_of settings weights hashes.now begins.now table.now) how
+        seeds.old bitmap.old work.old (record { outcome = result }) seeds.new bitmap.new work.new }
+{
+    let room = check_all(
+        settings,
+        weights,
+        how,
+        hashes,
+        begins,
+        table,
+        seeds.len(),
+        bitmap.len(),
+        work.len(),
+    )?;
+    perform(
+        geometry_of(settings),
+        weights,
+        how,
+        hashes,
+        begins,
+        table,
+        room.z as usize,
+        room.words as usize,
+        seeds,
+        bitmap,
+        work,
+    )
 }
 
 // Gives each bucket in its turn the cheapest seed that fits, range after range of the chunks that `how` asks for. It checks 1 to 8, 20 and 9 to 13 first,
@@ -104,32 +126,8 @@ pub fn sweep(
     ensures worked { work.new ≡ sweep_work how (input_of settings weights hashes.now begins.now table.now)
         (lent_of seeds.old bitmap.old work.old) work.old }
 {
-    let v = check_all(
-        settings,
-        weights,
-        how,
-        hashes,
-        begins,
-        table,
-        seeds.len(),
-        bitmap.len(),
-        work.len(),
+    let outcome = checked_sweep(
+        settings, weights, how, hashes, begins, table, seeds, bitmap, work,
     );
-    let number = v.number;
-    if number != 0 {
-        return refused(number, Named::NoBucket);
-    }
-    perform(
-        geometry_of(settings),
-        weights,
-        how,
-        hashes,
-        begins,
-        table,
-        v.z as usize,
-        v.words as usize,
-        seeds,
-        bitmap,
-        work,
-    )
+    SweepRecord { outcome }
 }

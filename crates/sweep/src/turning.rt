@@ -2,8 +2,8 @@
 ghost use Rattle.std.specs.Prelude.{◌≡◌, List, ℕ, ◌+◌, ◌≤◌, ◌<◌, length};
 ghost use Rattle.rules.specs.Order.{Input, input_of};
 ghost use Rattle.rings.specs.Level.{level_ring};
-ghost use Rattle.window.specs.Window.{state};
-ghost use Rattle.sweep.specs.Sweeping.{view_at, Level, Buffers, Starting, Ending, Begun, Next, Ranging, Blank, Ran};
+ghost use Rattle.window.specs.Window.{state_of};
+ghost use Rattle.sweep.specs.Sweeping.{Level, Buffers, Starting, Ending, Begun, Next, Ranging, Blank, Ran};
 ghost use Rattle.sweep.specs.Serving.{Serves, Turn, Served};
 
 use super::chunks::{chunk_count, chunk_gap, range_at};
@@ -14,15 +14,8 @@ use ring_keys::level::ring_of;
 use rings::Ring;
 use rules::How;
 use search::search;
+use window::Window;
 use window::rule::weight_table;
-use window::{View, is_empty, refill, take};
-
-// How the turns end: all are taken, or bumping is forbidden and this bucket gets 0.
-#[derive(Clone, Copy)]
-pub enum Ended {
-    All,
-    At(u64),
-}
 
 // Bucket b gets its seed.
 fn serve(
@@ -51,8 +44,8 @@ fn serve(
     v
 }
 
-// The turns of the buckets from lo up to hi, with the ring loaded from slot `from` on. What the window holds is lent by the caller, blank; all of it has a fixed
-// size.
+// The turns of the buckets from lo up to hi, with the ring loaded from slot `from` on and a window that the caller lends. There are no
+// more turns than buckets. Where bumping is forbidden, `Err` names the bucket that gets 0.
 pub fn take_turns(
     g: Geometry,
     ring: Ring,
@@ -65,48 +58,34 @@ pub fn take_turns(
     hi: usize,
     from: usize,
     z: usize,
-    queues: &mut [[u8; 256]; 64],
-    heads: &mut [u8; 64],
-    lengths: &mut [u16; 64],
-    keys: &mut [i64; 64],
-    set: &mut [u64; 16],
+    window: &mut Window,
     seeds: &mut [u16],
     bitmap: &mut [u64],
     work: &mut [u64],
-) -> Ended
+) -> Result<(), u64>
     requires ring_value { ring ≡ level_ring g.settings }
     requires begun { Begun g bump hashes.now begins.now table.now weights.now lo hi from z
-        (state queues.old heads.old lengths.old keys.old set.old (view_at lo)) seeds.old bitmap.old work.old }
+        (state_of window.old) seeds.old bitmap.old work.old }
     ensures { (i : Input) (pre : List ℕ)
         → Starting i g bump hashes.now begins.now table.now weights.now pre lo hi from z
-        (state queues.old heads.old lengths.old keys.old set.old (view_at lo)) seeds.old bitmap.old work.old
+        (state_of window.old) seeds.old bitmap.old work.old
         → Ending i bump pre lo hi result seeds.new bitmap.new }
 {
-    let mut turn: usize = 0;
     let mut first_slot = from;
-    let mut view = View {
-        oldest: lo,
-        next: lo,
-        nonempty: 0,
-        large: 0,
-    };
-    loop {
-        let full = refill(queues, heads, lengths, keys, weights, set, begins, hi, view);
-        if is_empty(full) {
-            return Ended::All;
+    for _turn in 0..hi {
+        window.refill(begins, weights, hi);
+        if window.is_empty() {
+            return Ok(());
         }
-        let t = take(queues, heads, lengths, keys, weights, set, begins, hi, full);
-        first_slot = advance(g, ring, work, bitmap, first_slot, full.oldest);
-        let b = t.bucket;
+        let oldest = window.oldest();
+        let b = window.take(begins, weights);
+        first_slot = advance(g, ring, work, bitmap, first_slot, oldest);
         let v = serve(g, ring, hashes, begins, table, b, z, seeds, bitmap, work);
-        turn += 1;
-        if v == 0 {
-            if !bump {
-                return Ended::At(b as u64);
-            }
+        if v == 0 && !bump {
+            return Err(b as u64);
         }
-        view = t.view;
     }
+    Ok(())
 }
 
 // The turns of the buckets from lo up to hi, with a blank window and the ring as the bitmap stands.
@@ -124,7 +103,7 @@ pub fn run_range(
     seeds: &mut [u16],
     bitmap: &mut [u64],
     work: &mut [u64],
-) -> Ended
+) -> Result<(), u64>
     requires ring_value { ring ≡ level_ring g.settings }
     requires ranging { Ranging g bump hashes.now begins.now table.now weights.now lo hi z seeds.old bitmap.old work.old }
     ensures { (i : Input) (pre : List ℕ)
@@ -132,11 +111,7 @@ pub fn run_range(
         → Ending i bump pre lo hi result seeds.new bitmap.new }
 {
     let from = load(g, ring, work, bitmap, lo);
-    let mut queues = [[0u8; 256]; 64];
-    let mut heads = [0u8; 64];
-    let mut lengths = [0u16; 64];
-    let mut keys = [0i64; 64];
-    let mut set = [0u64; 16];
+    let mut window = Window::new(lo);
     take_turns(
         g,
         ring,
@@ -149,11 +124,7 @@ pub fn run_range(
         hi,
         from,
         z,
-        &mut queues,
-        &mut heads,
-        &mut lengths,
-        &mut keys,
-        &mut set,
+        &mut window,
         seeds,
         bitmap,
         work,
@@ -172,7 +143,7 @@ pub fn run(
     seeds: &mut [u16],
     bitmap: &mut [u64],
     work: &mut [u64],
-) -> Ended
+) -> Result<(), u64>
     requires { Blank (input_of g.settings weights hashes.now begins.now table.now) g z seeds.old bitmap.old work.old }
     ensures { Ran (input_of g.settings weights hashes.now begins.now table.now) how result seeds.new bitmap.new }
 {
@@ -182,18 +153,13 @@ pub fn run(
     let gap = chunk_gap(g);
     let chunks = chunk_count(g, gap, how.chunks);
     let ranges = 2 * chunks - 1;
-    let mut k: u64 = 0;
-    while k < ranges {
+    for k in 0..ranges {
         let span = range_at(g, gap, chunks, k);
         let lo = span.lo as usize;
         let hi = span.hi as usize;
-        let ended = run_range(
+        run_range(
             g, ring, bump, hashes, begins, table, &by_size, lo, hi, z, seeds, bitmap, work,
-        );
-        if let Ended::At(b) = ended {
-            return Ended::At(b);
-        }
-        k += 1;
+        )?;
     }
-    Ended::All
+    Ok(())
 }

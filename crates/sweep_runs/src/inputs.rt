@@ -1,23 +1,13 @@
 // The numbers 8, 20 and 9 to 14.
 ghost use Rattle.std.specs.Prelude.{◌≤◌};
 
-use super::lending::{case, in_one};
-use rules::{How, Settings};
-
-fn level(buckets: u64) -> Settings {
-    Settings {
-        m: 7,
-        log2_slice_len: 3,
-        ll: 0,
-        sb: 4,
-        buckets: buckets,
-    }
-}
+use super::lending::{case, in_one, level};
+use rules::How;
 
 // Key 0 alone in one bucket, with these weights.
 fn weighed(weights: [i64; 7]) {
     case(
-        level(1),
+        level(7, 4, 1),
         weights,
         in_one(true),
         &[0],
@@ -44,12 +34,9 @@ fn weights() {
 // 20: no chunk, and as few and as many as there can be; 8 before it, and it before 9.
 fn chunked(chunks: u64, weight: i64, begins: &[u32]) {
     case(
-        level(1),
+        level(7, 4, 1),
         [weight, 0, 0, 0, 0, 0, 0],
-        How {
-            bump: true,
-            chunks: chunks,
-        },
+        How { bump: true, chunks },
         &[0],
         begins,
         log_table::house(),
@@ -73,7 +60,7 @@ fn chunks() {
 // One bucket; all of work is lent.
 fn one(hashes: &[u64], begins: &[u32]) {
     case(
-        level(1),
+        level(7, 4, 1),
         [0i64; 7],
         in_one(true),
         hashes,
@@ -89,7 +76,7 @@ fn one(hashes: &[u64], begins: &[u32]) {
 // Three buckets.
 fn three(hashes: &[u64], begins: &[u32]) {
     case(
-        level(3),
+        level(7, 4, 3),
         [0i64; 7],
         in_one(true),
         hashes,
@@ -159,7 +146,7 @@ fn priced(table: [u32; 2048], entries: usize)
     requires { entries ≤ 2048 }
 {
     case(
-        level(1),
+        level(7, 4, 1),
         [0i64; 7],
         in_one(true),
         &[0],
@@ -193,7 +180,7 @@ fn lent(seeds: usize, bitmap: usize, work: usize)
     requires { (seeds ≤ 6) × ((bitmap ≤ 4) × (work ≤ 15200)) }
 {
     case(
-        level(1),
+        level(7, 4, 1),
         [0i64; 7],
         in_one(true),
         &[0, 0x4000_0000_0000_0003],
@@ -230,7 +217,7 @@ fn bumping(bump: bool) {
         0xb000_0000_0000_0001,
     ];
     case(
-        level(3),
+        level(7, 4, 3),
         [9000, 0, 5000, 0, 0, 0, 0],
         in_one(bump),
         &keys,
@@ -242,7 +229,7 @@ fn bumping(bump: bool) {
         3000,
     );
     case(
-        level(3),
+        level(7, 4, 3),
         [9000, 0, 0, 0, 0, 0, 0],
         in_one(bump),
         &keys,
@@ -254,7 +241,7 @@ fn bumping(bump: bool) {
         3000,
     );
     case(
-        level(1),
+        level(7, 4, 1),
         [0i64; 7],
         in_one(bump),
         &[0, 0],
@@ -271,7 +258,7 @@ fn bumping(bump: bool) {
 fn neighbours() {
     let house = log_table::house();
     case(
-        level(1),
+        level(7, 4, 1),
         [0, 4_294_967_297, 0, 0, 0, 0, 0],
         in_one(true),
         &[0],
@@ -283,7 +270,7 @@ fn neighbours() {
         2883,
     );
     case(
-        level(3),
+        level(7, 4, 3),
         [0i64; 7],
         in_one(true),
         &[0],
@@ -295,7 +282,7 @@ fn neighbours() {
         2883,
     );
     case(
-        level(1),
+        level(7, 4, 1),
         [0i64; 7],
         in_one(true),
         &[0],
@@ -307,7 +294,7 @@ fn neighbours() {
         2882,
     );
     case(
-        level(1),
+        level(7, 4, 1),
         [0i64; 7],
         in_one(false),
         &[0, 0],

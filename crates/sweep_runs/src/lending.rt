@@ -1,7 +1,7 @@
 // One case: buffers full of rubbish are lent to a sweep, and what is in them afterwards is written.
 ghost use Rattle.std.specs.Prelude.{◌≤◌, ◌<◌};
 
-use rules::{How, Named, Outcome, Settings, SweepRecord};
+use rules::{How, Settings, SweepRecord};
 
 fn put(x: u64) {
     io::write_all(1, b" ");
@@ -10,33 +10,25 @@ fn put(x: u64) {
 
 // Where the words that are x, from `from` on, end.
 fn end_of(xs: &[u64; 15200], from: usize, x: u64) -> usize {
-    let mut i = from;
-    while i < 15200 {
+    for i in from..xs.len() {
         if xs[i] != x {
             return i;
         }
-        i += 1;
     }
-    i
-}
-
-fn put_seed(xs: [u16; 6], i: usize)
-    requires { i < 6 }
-{
-    put(xs[i] as u64);
+    xs.len()
 }
 
 fn put_seeds(xs: [u16; 6]) {
     io::write_all(1, b" seeds");
-    for i in 0..6usize {
-        put_seed(xs, i);
+    for x in xs {
+        put(u64::from(x));
     }
 }
 
-fn put_bitmap(xs: &[u64; 4]) {
+fn put_bitmap(xs: [u64; 4]) {
     io::write_all(1, b" bitmap");
-    for i in 0..4usize {
-        put(xs[i]);
+    for x in xs {
+        put(x);
     }
 }
 
@@ -55,31 +47,23 @@ fn put_settings(s: Settings, how: How) {
     put(s.ll);
     put(s.sb);
     put(s.buckets);
-    if how.bump {
-        put(1);
-    } else {
-        put(0);
-    }
+    put(u64::from(how.bump));
     put(how.chunks);
 }
 
 fn put_record(r: SweepRecord) {
-    let outcome = r.outcome;
-    match outcome {
-        Outcome::Done(c) => {
+    match r.outcome {
+        Ok(c) => {
             io::write_all(1, b" done");
             put(c.placed);
             put(c.bumped);
             put(c.zero);
         }
-        Outcome::Refused(n, named) => {
+        Err(stop) => {
             io::write_all(1, b" refused");
-            put(n);
-            match named {
-                Named::Bucket(b) => {
-                    put(b);
-                }
-                Named::NoBucket => {}
+            put(stop.why.number());
+            if let Some(b) = stop.bucket {
+                put(b);
             }
         }
     }
@@ -109,9 +93,17 @@ fn run(
 
 // In one chunk.
 pub fn in_one(bump: bool) -> How {
-    How {
-        bump: bump,
-        chunks: 1,
+    How { bump, chunks: 1 }
+}
+
+// A level of slices of 8 slots and one layout.
+pub fn level(m: u64, sb: u64, buckets: u64) -> Settings {
+    Settings {
+        m,
+        log2_slice_len: 3,
+        ll: 0,
+        sb,
+        buckets,
     }
 }
 
@@ -145,6 +137,6 @@ pub fn case(
         &mut worked[..work],
     );
     put_seeds(given);
-    put_bitmap(&marked);
+    put_bitmap(marked);
     put_work(&worked);
 }

@@ -10,11 +10,11 @@ fn settings(m: u64, log2_slice_len: u64, ll: u64, sb: u64, buckets: u64) {
 // The same, with a weight of size 1.
 fn weighed(m: u64, log2_slice_len: u64, ll: u64, sb: u64, buckets: u64, weight: i64) {
     let s = Settings {
-        m: m,
-        log2_slice_len: log2_slice_len,
-        ll: ll,
-        sb: sb,
-        buckets: buckets,
+        m,
+        log2_slice_len,
+        ll,
+        sb,
+        buckets,
     };
     case(
         s,

@@ -1,16 +1,6 @@
 // The sheets P3 to P9 of document 01, a level without keys, and one of three bitmap words.
-use super::lending::{case, in_one};
+use super::lending::{case, in_one, level};
 use rules::Settings;
-
-fn level(m: u64, sb: u64, buckets: u64) -> Settings {
-    Settings {
-        m: m,
-        log2_slice_len: 3,
-        ll: 0,
-        sb: sb,
-        buckets: buckets,
-    }
-}
 
 // P3 to P7: one bucket.
 fn one_bucket(m: u64, sb: u64, bump: bool, hashes: &[u64], begins: &[u32]) {

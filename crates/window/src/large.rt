@@ -1,11 +1,11 @@
 ghost use Rattle.std.specs.Prelude.{◌≡◌, ◌+◌, ◌-◌, ◌≤◌, ◌<◌, ◌^◌, nat_abs, length};
 ghost use Rattle.groups.specs.Groups.{size_in};
-ghost use Rattle.window.specs.Large.{key_in, better_of, first_of, Measured, Searched, Told, Largest, Left};
+ghost use Rattle.window.specs.Large.{tell, key_in, better_of, first_of, Measured, Searched, Told, Largest, Left};
 
 use crate::rule;
 
 // The buckets of 64 keys and more. No queue has them: the window knows the one of them that goes first, and once that is
-// taken looks through its untaken buckets for the next. It is told by one more than its number, and none by 0.
+// taken looks through its untaken buckets for the next.
 
 // A bucket and its key.
 #[derive(Clone, Copy)]
@@ -46,17 +46,15 @@ fn largest(set: &[u64; 16], begins: &[u32], table: &[i64; 64], o: usize, e: usiz
         bucket: e,
         key: -4611686018427387904,
     };
-    let mut b = o;
-    while b < e {
+    for b in o..e {
         let size = groups::size_of(begins, b);
         best = better(set, w6, w7, best, size, b);
-        b += 1;
     }
     best
 }
 
 // The key of bucket `b` of 64 keys and more.
-fn key_of(begins: &[u32], table: &[i64; 64], b: usize) -> i64
+pub fn key_of(begins: &[u32], table: &[i64; 64], b: usize) -> i64
     requires measured { Measured begins.now table.now (b + 1) }
     requires bound { 64 ≤ size_in begins.now b }
     ensures { result ≡ key_in begins.now table.now b }
@@ -66,33 +64,19 @@ fn key_of(begins: &[u32], table: &[i64; 64], b: usize) -> i64
     rule::key(w, b)
 }
 
-// The key of the bucket that `large` tells.
-pub fn key_told(begins: &[u32], table: &[i64; 64], large: usize) -> i64
-    requires { 0 < large → Measured begins.now table.now large × (64 ≤ size_in begins.now (large - 1)) }
-    ensures { 0 < large → result ≡ key_in begins.now table.now (large - 1) }
-{
-    if large == 0 {
-        return 0;
-    }
-    key_of(begins, table, large - 1)
-}
-
 // The one of `large` and bucket `b` that goes first.
-pub fn first_of(begins: &[u32], table: &[i64; 64], large: usize, b: usize) -> usize
+pub fn first_of(begins: &[u32], table: &[i64; 64], large: Option<usize>, b: usize) -> usize
     requires measured { Measured begins.now table.now (b + 1) }
     requires bound { 64 ≤ size_in begins.now b }
-    requires told { Told begins.now b large }
-    ensures { result ≡ first_of begins.now table.now large b }
+    requires told { Told begins.now b (tell large) }
+    ensures { result + 1 ≡ first_of begins.now table.now (tell large) b }
 {
-    if large == 0 {
-        return b + 1;
-    }
-    let k = key_of(begins, table, large - 1);
+    let Some(x) = large else {
+        return b;
+    };
+    let k = key_of(begins, table, x);
     let l = key_of(begins, table, b);
-    if k < l {
-        return b + 1;
-    }
-    large
+    if k < l { b } else { x }
 }
 
 // What `large` becomes once bucket `b` is taken; the others lie from `o` on and below `e`.
@@ -100,22 +84,18 @@ pub fn left(
     set: &[u64; 16],
     begins: &[u32],
     table: &[i64; 64],
-    large: usize,
+    large: Option<usize>,
     b: usize,
     o: usize,
     e: usize,
-) -> usize
+) -> Option<usize>
     requires searched { Searched set.now begins.now table.now o e }
     requires b_lt_e { b < e }
-    ensures { Left set.now begins.now table.now large b o e result }
+    ensures { Left set.now begins.now table.now (tell large) b o e (tell result) }
 {
-    if large != b + 1 {
+    if large != Some(b) {
         return large;
     }
-    let best = largest(set, begins, table, o, e);
-    let next = best.bucket;
-    if next < e {
-        return next + 1;
-    }
-    0
+    let next = largest(set, begins, table, o, e).bucket;
+    if next < e { Some(next) } else { None }
 }

@@ -6,8 +6,8 @@ use native.Mathlib.Omega.{arith}
 use lib.IntN.{ℤ}
 use Rattle.rules.specs.Order.{Input, size_of}
 use Rattle.window.specs.Key.{Within, Table}
-use Rattle.window.specs.Window.{Waiting}
-use Rattle.window.proofs.WindowLaws.{blank, start}
+use Rattle.window.specs.Window.{blank, Waiting}
+use Rattle.window.proofs.WindowLaws.{start}
 use Rattle.window_runs.specs.Sized.{Sized}
 
 -- the settings play no part

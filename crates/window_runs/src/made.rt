@@ -17,28 +17,16 @@ fn size(x: u64, kind: u64) -> u64
     ensures { result ≤ 4096 }
 {
     let r = x / 8 % 1000;
-    if kind == 0 {
-        return r % 9;
+    match kind {
+        0 => r % 9,
+        1 => r % 200,
+        2 if r < 600 => 0,
+        2 => 60 + r % 8,
+        3 if r < 970 => 0,
+        3 => 1 + r % 97,
+        _ if r < 20 => 4096 - r,
+        _ => r % 70,
     }
-    if kind == 1 {
-        return r % 200;
-    }
-    if kind == 2 {
-        if r < 600 {
-            return 0;
-        }
-        return 60 + r % 8;
-    }
-    if kind == 3 {
-        if r < 970 {
-            return 0;
-        }
-        return 1 + r % 97;
-    }
-    if r < 20 {
-        return 4096 - r;
-    }
-    r % 70
 }
 
 // The begins of 1,400 buckets.
@@ -48,12 +36,10 @@ pub fn begins(out: &mut [u32; 1401], seed: u64, kind: u64)
 {
     let mut x = seed;
     let mut total: u64 = 0;
-    let mut b: usize = 0;
     out[0] = 0;
-    while b < 1400 {
+    for b in 1..1401 {
         x = next(x);
         total += size(x, kind);
-        b += 1;
         out[b] = total as u32;
     }
 }
@@ -62,13 +48,11 @@ fn pick(r: u64, a: i64, b: i64, c: i64) -> i64
     requires { (nat_abs a ≤ 2 ^ 32) × ((nat_abs b ≤ 2 ^ 32) × (nat_abs c ≤ 2 ^ 32)) }
     ensures { nat_abs result ≤ 2 ^ 32 }
 {
-    if r == 0 {
-        return a;
+    match r {
+        0 => a,
+        1 => b,
+        _ => c,
     }
-    if r == 1 {
-        return b;
-    }
-    c
 }
 
 // A weight: one in steps of 1,024, so that ties are many, any small one, or one at ±2^32.
@@ -76,13 +60,11 @@ fn weight(x: u64, kind: u64) -> i64
     ensures { nat_abs result ≤ 2 ^ 32 }
 {
     let r = x / 8 % 3;
-    if kind == 0 {
-        return pick(r, 0, 1024, 2048);
+    match kind {
+        0 => pick(r, 0, 1024, 2048),
+        1 => pick(r, -51234, 777, 60000),
+        _ => pick(r, 4294967296, 0, -4294967296),
     }
-    if kind == 1 {
-        return pick(r, -51234, 777, 60000);
-    }
-    pick(r, 4294967296, 0, -4294967296)
 }
 
 pub fn weights(seed: u64, kind: u64) -> [i64; 7]
@@ -91,12 +73,9 @@ pub fn weights(seed: u64, kind: u64) -> [i64; 7]
 {
     let mut w = [0i64; 7];
     let mut x = seed;
-    let mut k: usize = 0;
-    while k < 7 {
+    for k in 0..7 {
         x = next(x);
-        let v = weight(x, kind);
-        w[k] = v;
-        k += 1;
+        w[k] = weight(x, kind);
     }
     w
 }

@@ -1,21 +1,25 @@
-use Rattle.checks.proofs.Stray.{strays_as, none_strayed, one_strayed, begun_grouped}
-use native.Mathlib.Omega.{arith}
+use Rattle.std.proofs.Common.{◌≡◌, ◌∙◌, ℕ, List, true, false, not, sym, ap, arith}
 use borrow.Author.Count.{below_more}
+use Rattle.rules.specs.declared.Settings.{Settings}
+use Rattle.checks.specs.Homes.{all_in}
+use Rattle.checks.proofs.Every.{every_each, every_fails, passes, fails}
+use Rattle.checks.proofs.Stray.{home_at, strayed_by}
 use Rattle.checks.proofs.strayed.Goals as goal
 
-pub loop-b-init : goal.loop-b-init
-loop-b-init c = (omega arith, λ j h. absurd (let z : ⊥ = omega arith in z))
-
-pub keys_of-keys-requires : goal.keys_of-keys-requires
-keys_of-keys-requires c =
-    let whole = begun_grouped c.requires.begun c.loop-b.b c.loop-b-test.true in
-    record { grouped = whole.0; b_in_bounds = whole.1 }
+home : (s : Settings) (b : ℕ) (keys part : List ℕ) → keys ≡ part → all_in s part b ≡ all_in s keys b
+home s b keys part e = ap (λ ks. all_in s ks b) (sym e)
 
 pub returns-then-strays : goal.returns-then-strays
-returns-then-strays c = one_strayed _ _ _ _ c.loop-b.b c.loop-b-test.true (strays_as c.strays.ensures c.keys_of-keys.ensures c.if-strays.true)
+returns-then-strays c =
+    let a = c.args in
+    strayed_by a.g.settings a.hashes.now a.begins.now a.buckets true
+    (ap not (sym (every_fails (home_at a.g.settings a.hashes.now a.begins.now) a.buckets c.loop-b.b (omega arith) (home _ _ _ _ c.keys_of.ensures ∙ fails _ c.if-strays.ensures))))
 
 pub loop-b-preserved : goal.loop-b-preserved
-loop-b-preserved c = (omega arith, below_more _ c.loop-b.b c.loop-b.invariant.1 (strays_as c.strays.ensures c.keys_of-keys.ensures c.if-strays.false))
+loop-b-preserved c = below_more _ c.loop-b.b c.loop-b.invariant (home _ _ _ _ c.keys_of.ensures ∙ passes _ c.if-strays.ensures)
 
 pub returns : goal.returns
-returns c = none_strayed _ _ _ _ (λ a h. c.loop-b.invariant.1 a (omega arith))
+returns c =
+    let a = c.args in
+    strayed_by a.g.settings a.hashes.now a.begins.now a.buckets false
+    (ap not (sym (every_each (home_at a.g.settings a.hashes.now a.begins.now) a.buckets (λ b l. c.loop-b.invariant b (omega arith)))))

@@ -1,11 +1,6 @@
+use Rattle.std.proofs.Common.{◌≡◌, ℕ, ◌<◌, get_or, true, eqb}
 use Rattle.rules.specs.Geometry.{bucket_of}
-use lib.ListN.{length, get_or}
-use Prim.Native.Nat.{ℕ, ◌-◌, ◌<◌, ◌≤◌}
-use mathlib.Core.Path.{◌≡◌}
 use Rattle.checks.proofs.strays.Given as goal
 
-abbrev pub invariant-loop-k : goal.invariant-loop-k
-invariant-loop-k l = (l.k ≤ length l.keys) × ((j : ℕ) → j < l.k → bucket_of l.g.settings (get_or l.keys j 0) ≡ l.b)
-
-abbrev pub decreases-loop-k : goal.decreases-loop-k
-decreases-loop-k l = length l.keys - l.k
+abbrev pub invariant-loop-h : goal.invariant-loop-h
+invariant-loop-h l = (k : ℕ) → k < l.h-index → eqb (bucket_of l.g.settings (get_or l.keys k 0)) l.b ≡ true

@@ -6,35 +6,26 @@ use lib.ListN.{length}
 use lib.Count.{ones, ones-le}
 use Rattle.holes.proofs.Walk.{rest_from, rest_all, rest_none, holes_length, count_step}
 use Rattle.holes.proofs.count_holes.Goals as goal
-use Rattle.holes.proofs.count_holes.Goals.{After-free_word}
+use Rattle.holes.proofs.count_holes.Goals.{After-free_bits}
 
 -- the holes from word w on are its free word's ones and those from the next word on
-one_more : (c : goal.After-free_word)
+one_more : (c : goal.After-free_bits)
     → length (rest_from c.args.m c.args.bitmap.now c.loop-w.w)
-    ≡ ones c.free_word.result
+    ≡ ones c.free_bits.result
     + length (rest_from c.args.m c.args.bitmap.now (c.loop-w.w + 1))
-one_more c = rw c.free_word.ensures (count_step _ _ _ (c.type_inv.bitmap _).fits)
+one_more c = rw c.free_bits.ensures (count_step _ _ _ (c.type_inv.bitmap _).fits)
 
 pub loop-w-init : goal.loop-w-init
 loop-w-init c = omega (arith, ap length (rest_all c.args.m c.args.bitmap.now))
 
-pub free_word-requires : goal.free_word-requires
-free_word-requires c = omega arith
-
 pub overflow_cast-total : goal.overflow_cast-total
-overflow_cast-total c = omega (arith, ones-le 64 c.free_word.result (omega arith))
+overflow_cast-total c = omega (arith, ones-le 64 c.free_bits.result (omega arith))
 
 pub overflow_add-total : goal.overflow_add-total
-overflow_add-total c = omega (arith, one_more (goal.at.overflow_add-total c).After-free_word, holes_length c.args.m c.args.bitmap.now)
-
-pub overflow_step-w : goal.overflow_step-w
-overflow_step-w c = omega arith
-
-pub loop-w-smaller : goal.loop-w-smaller
-loop-w-smaller c = omega arith
+overflow_add-total c = omega (arith, one_more (goal.at.overflow_add-total c).After-free_bits, holes_length c.args.m c.args.bitmap.now)
 
 pub loop-w-preserved : goal.loop-w-preserved
-loop-w-preserved c = omega (arith, one_more (goal.at.loop-w-preserved c).After-free_word)
+loop-w-preserved c = omega (arith, one_more (goal.at.loop-w-preserved c).After-free_bits)
 
 pub returns : goal.returns
 returns c =

@@ -1,5 +1,5 @@
 -- How many holes there are. The total so far and the holes from word w on make all of them, and one turn moves a free word's ones across.
-use Prim.Native.Nat.{◌≤◌, ◌+◌, ◌-◌}
+use Prim.Native.Nat.{◌+◌}
 use mathlib.Core.Path.{◌≡◌}
 use lib.ListN.{length}
 use Rattle.rules.specs.Holes.{holes_of}
@@ -7,7 +7,4 @@ use Rattle.holes.proofs.Walk.{rest_from}
 use Rattle.holes.proofs.count_holes.Given as goal
 
 abbrev pub invariant-loop-w : goal.invariant-loop-w
-invariant-loop-w l = (l.w-end ≡ length l.bitmap) × (l.w ≤ l.w-end) × (l.total + length (rest_from l.m l.bitmap l.w) ≡ length (holes_of l.m l.bitmap))
-
-abbrev pub decreases-loop-w : goal.decreases-loop-w
-decreases-loop-w l = l.w-end - l.w
+invariant-loop-w l = l.total + length (rest_from l.m l.bitmap l.w) ≡ length (holes_of l.m l.bitmap)

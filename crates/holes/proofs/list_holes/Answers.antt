@@ -21,38 +21,20 @@ next : (c : goal.In-loop-free)
 next c = fill_slots _ _ _ c.loop-free.invariant.0 (omega (arith, c.loop-free-test.true)) c.loop-free.invariant.2
 
 pub loop-w-init : goal.loop-w-init
-loop-w-init c = (omega arith, omega arith, rw rest_all (fill_start _ _ c.requires.2))
-
-pub free_word-free-requires : goal.free_word-free-requires
-free_word-free-requires c = omega arith
+loop-w-init c = rw rest_all (fill_start _ _ c.requires.2)
 
 pub loop-free-init : goal.loop-free-init
 loop-free-init c = (
   omega arith,
   omega arith,
-  rw (c.free_word-free.ensures, ← rest_step _ _ _ (c.type_inv.bitmap _).fits) (fill_restart c.loop-w.invariant.2),
+  rw (c.free_bits-free.ensures, ← rest_step _ _ _ (c.type_inv.bitmap _).fits) (fill_restart c.loop-w.invariant),
 )
-
-pub overflow_mul-out : goal.overflow_mul-out
-overflow_mul-out c = omega arith
-
-pub overflow_cast-out : goal.overflow_cast-out
-overflow_cast-out c = omega arith
 
 pub overflow_add-out : goal.overflow_add-out
 overflow_add-out c = omega (arith, trailing_le 64 c.loop-free.free)
 
-pub offset_bounds-out-n : goal.offset_bounds-out-n
-offset_bounds-out-n c = omega arith
-
 pub bounds-out-n : goal.bounds-out-n
 bounds-out-n c = fill_room (next (goal.at.bounds-out-n c).In-loop-free)
-
-pub overflow_add-n : goal.overflow_add-n
-overflow_add-n c = omega arith
-
-pub overflow_sub-free : goal.overflow_sub-free
-overflow_sub-free c = omega arith
 
 pub loop-free-smaller : goal.loop-free-smaller
 loop-free-smaller c = omega (arith, c.loop-free-test.true, and_le_r c.loop-free.free (c.loop-free.free - 1))
@@ -60,22 +42,16 @@ loop-free-smaller c = omega (arith, c.loop-free-test.true, and_le_r c.loop-free.
 pub loop-free-preserved : goal.loop-free-preserved
 loop-free-preserved c = (omega (arith, and_le_r c.loop-free.free (c.loop-free.free - 1)), omega arith, fill_put (next (goal.at.loop-free-preserved c).In-loop-free))
 
-pub overflow_step-w : goal.overflow_step-w
-overflow_step-w c = omega arith
-
-pub loop-w-smaller : goal.loop-w-smaller
-loop-w-smaller c = omega arith
-
 pub loop-w-preserved : goal.loop-w-preserved
-loop-w-preserved c = (omega arith, omega arith, fill_chain c.loop-w.invariant.2 (fill_word _ _ _ (omega (arith, c.loop-free-test.false)) c.loop-free.invariant.2) c.loop-free.invariant.1)
+loop-w-preserved c = fill_chain c.loop-w.invariant (fill_word _ _ _ (omega (arith, c.loop-free-test.false)) c.loop-free.invariant.2) c.loop-free.invariant.1
 
 pub shape_of-out : goal.shape_of-out
-shape_of-out c = c.loop-w.invariant.2.same
+shape_of-out c = c.loop-w.invariant.same
 
 pub returns : goal.returns
 returns c =
     let a = c.args in
-    let f = c.loop-w.invariant.2 in
+    let f = c.loop-w.invariant in
     let none = rest_none a.m a.bitmap.now c.loop-w.w (omega arith) in
     record {
       counted = fill_all f none;

@@ -1,9 +1,7 @@
 -- The holes at the front of the buffer. Both loops keep that what is written and what is left make the whole list: the outer one leaves the
 -- holes from word w on, the inner one the set bits of what remains of a free word before those of the next words.
-use Prim.Native.Nat.{◌≤◌, ◌<◌, ◌+◌, ◌-◌, ◌*◌, ◌^◌}
-use mathlib.Core.Path.{◌≡◌}
+use Prim.Native.Nat.{◌≤◌, ◌<◌, ◌+◌, ◌*◌, ◌^◌}
 use mathlib.Core.List.{◌++◌}
-use lib.ListN.{length}
 use Rattle.rules.specs.Holes.{holes_of}
 use Rattle.holes.proofs.SetBits.{set_slots}
 use Rattle.holes.proofs.Walk.{rest_from}
@@ -18,7 +16,4 @@ abbrev pub decreases-loop-free : goal.decreases-loop-free
 decreases-loop-free l = l.free
 
 abbrev pub invariant-loop-w : goal.invariant-loop-w
-invariant-loop-w l = (l.w-end ≡ length l.bitmap) × (l.w ≤ l.w-end) × Filling (holes_of l.m l.bitmap) l.initial.out l.out l.n (rest_from l.m l.bitmap l.w)
-
-abbrev pub decreases-loop-w : goal.decreases-loop-w
-decreases-loop-w l = l.w-end - l.w
+invariant-loop-w l = Filling (holes_of l.m l.bitmap) l.initial.out l.out l.n (rest_from l.m l.bitmap l.w)

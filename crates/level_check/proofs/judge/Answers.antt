@@ -1,52 +1,26 @@
--- Each way out says what `level_answer` says there, and leaves the scratch as the last `clear` made it: all zero.
-use lib.ListN.{length}
-use native.Mathlib.Omega.{arith}
-use Rattle.level_check.proofs.Judging.{blank, refill, says_28, says_29, says_30, says_accepted}
+-- Each way out says what `level_answer` says there.
+use Rattle.level_check.proofs.Judging.{blank, says_28, says_29, says_30, says_accepted}
 use Rattle.level_check.proofs.judge.Goals as goal
 
-pub returns-then-seeds_bad : goal.returns-then-seeds_bad
-returns-then-seeds_bad c =
+pub returns-then-seeds_bad-clause-answer : goal.returns-then-seeds_bad-clause-answer
+returns-then-seeds_bad-clause-answer c =
     let a = c.args in
-    record {
-      answer = says_28 a.g.settings a.hashes.now a.begins.now a.seeds.now a.bitmap.now c.requires.seeds_len.0
-          c.power_of_two.ensures.0 c.seeds_bad.ensures c.if-seeds_bad.true;
-      scratch = c.clear.ensures;
-    }
+    rw c.into.ensures (says_28 a.g.settings a.hashes.now a.begins.now a.seeds.now a.bitmap.now c.requires.seeds_len.0 c.power_of_two.ensures.0 c.seeds_bad.ensures c.if-seeds_bad.true)
 
-pub mark_buckets-b-requires : goal.mark_buckets-b-requires
-mark_buckets-b-requires c =
-    let w = blank _ _ _ c.clear.ensures c.requires.seeds_len.2 in
-    record {
-      made = (c.requires.made, w.0);
-      begun = c.requires.begun;
-      scratch_value = w.1;
-    }
+pub mark_buckets-requires-clause-scratch_value : goal.mark_buckets-requires-clause-scratch_value
+mark_buckets-requires-clause-scratch_value c = (blank _ _ _ (c.fill.ensures.after (λ y e. e)) c.requires.seeds_len.2).1
 
-pub returns-then-b-seeds : goal.returns-then-b-seeds
-returns-then-b-seeds c =
+pub returns-in-Some-clause-answer : goal.returns-in-Some-clause-answer
+returns-in-Some-clause-answer c =
     let a = c.args in
-    record {
-      answer = says_29 a.g.settings a.hashes.now a.begins.now a.seeds.now a.bitmap.now c.requires.seeds_len.0
-          c.power_of_two.ensures.0 c.seeds_bad.ensures c.if-seeds_bad.false c.mark_buckets-b.ensures c.if-b-seeds.true;
-      scratch = refill _ (length c.mark_buckets-b.new.scratch) _ c.clear-then-b-seeds.ensures (omega arith);
-    }
+    says_29 a.g.settings a.hashes.now a.begins.now a.seeds.now a.bitmap.now c.requires.seeds_len.0 c.power_of_two.ensures.0 c.seeds_bad.ensures c.if-seeds_bad.false c.in-Some.ensures
 
-pub returns-then-same : goal.returns-then-same
-returns-then-same c =
+pub returns-then-not-same-clause-answer : goal.returns-then-not-same-clause-answer
+returns-then-not-same-clause-answer c =
     let a = c.args in
-    record {
-      answer = says_accepted a.g.settings a.hashes.now a.begins.now a.seeds.now a.bitmap.now c.requires.seeds_len.0
-          c.power_of_two.ensures.0 c.seeds_bad.ensures c.if-seeds_bad.false c.mark_buckets-b.ensures c.if-b-seeds.false
-          c.same_words-same.ensures c.if-same.true;
-      scratch = refill _ (length c.mark_buckets-b.new.scratch) _ c.clear-2.ensures (omega arith);
-    }
+    rw c.into-then-not-same.ensures (says_30 a.g.settings a.hashes.now a.begins.now a.seeds.now a.bitmap.now c.requires.seeds_len.0 c.power_of_two.ensures.0 c.seeds_bad.ensures c.if-seeds_bad.false c.in_default.ensures c.if-not-same.ensures)
 
-pub returns : goal.returns
-returns c =
+pub returns-clause-answer : goal.returns-clause-answer
+returns-clause-answer c =
     let a = c.args in
-    record {
-      answer = says_30 a.g.settings a.hashes.now a.begins.now a.seeds.now a.bitmap.now c.requires.seeds_len.0
-          c.power_of_two.ensures.0 c.seeds_bad.ensures c.if-seeds_bad.false c.mark_buckets-b.ensures c.if-b-seeds.false
-          c.same_words-same.ensures c.if-same.false;
-      scratch = refill _ (length c.mark_buckets-b.new.scratch) _ c.clear-2.ensures (omega arith);
-    }
+    says_accepted a.g.settings a.hashes.now a.begins.now a.seeds.now a.bitmap.now c.requires.seeds_len.0 c.power_of_two.ensures.0 c.seeds_bad.ensures c.if-seeds_bad.false c.in_default.ensures c.if-not-same.ensures

@@ -1,95 +1,58 @@
--- Each return is one case of the answer; past the checks the settings are usable and the seeds B long, which `lookup_in` asks.
-use Rattle.std.proofs.Common.{◌≡◌, sym, ap, ◌∙◌, subst, length}
-use Rattle.rules.specs.Good.{Usable}
-use Rattle.rules.specs.Numbers.{first_of, lines_to6}
+-- A refusal is what a lookup says, and without one what it found (`looked_says`). Past the checks the geometry, in either shape, is that of the
+-- settings. Assumes nothing.
+use Rattle.std.proofs.Common.{◌≡◌, length, sym, ap, ◌∙◌, subst, arith}
+use Rattle.std.specs.Prelude.{Ok, Err}
+use Rattle.std.proofs.lemmas.Grind.{common_steps}
+use Rattle.rules.specs.declared.Refusal.TheVariants.{Lengths}
 use Rattle.rules.specs.Holes.{looked_up}
-use Rattle.rules.specs.Answers.{Answer, lookup_answer}
-use Rattle.rules.specs.declared.Settings.{Settings}
-use Rattle.rules.proofs.CheckLaws.{passes_6}
-use Rattle.rules.proofs.Tests.{of_true}
+use Rattle.rules.specs.Numbers.{first_of, lookup_lines}
+use Rattle.rules.specs.Answers.{number_of, lookup_answer}
+use Rattle.rules.proofs.RefusalLaws.{number_positive}
 use Rattle.geometry.specs.declared.shape.Geometry.{Geometry}
 use Rattle.geometry.specs.Shape.{Made, geometry_of}
 use Rattle.geometry.specs.Usual.{Usual}
 use Rattle.geometry.proofs.Sizes.{made}
 use Rattle.geometry.proofs.UsualLaws.{usual_of}
-use Rattle.lookup.proofs.Cases.{refused, refused_13, answered}
+use Rattle.lookup.proofs.Cases.{looked_says, lookup_first, lookup_last}
 use Rattle.lookup.proofs.lookup_by.Goals as goal
-use Rattle.lookup.proofs.lookup_by.Goals.{After-geometry_of-g, Else-n-ne0}
+use Rattle.lookup.proofs.lookup_by.Goals.{then-this-ne0, else-this-ne0}
 
--- none of 1 to 6 applies
-none : (c : goal.Else-n-ne0) → first_of (lines_to6 c.args.settings) ≡ 0
-none c = sym c.number_to_6-n.ensures.0 ∙ c.if-n-ne0.false
+pub returns-in_err-check_to_6 : goal.returns-in_err-check_to_6
+unfolding lookup_answer
+returns-in_err-check_to_6 g c =
+    let why = c.in_err-check_to_6.field-0.0 in
+    let n : number_of why ≡ first_of (lookup_lines c.args.settings (length c.args.seeds.now)) = grind (arith, lookup_first c.args.settings (length c.args.seeds.now), number_positive why, c.in_err-check_to_6.ensures.number) in
+    let e : c.from_residual.result ≡ Err why = grind (arith, common_steps) in
+    rw e (looked_says (Err why) _ (looked_up c.args.settings c.args.seeds.now c.args.hash) n tt)
 
-usable : (c : goal.Else-n-ne0) → Usable c.args.settings
-usable c = passes_6 c.args.settings (none c)
+pub returns-then-seeds-settings : goal.returns-then-seeds-settings
+unfolding lookup_answer
+returns-then-seeds-settings g c =
+    let n : 13 ≡ first_of (lookup_lines c.args.settings (length c.args.seeds.now)) = grind (arith, common_steps, lookup_last) in
+    looked_says (Err Lengths) _ (looked_up c.args.settings c.args.seeds.now c.args.hash) n tt
 
--- the geometry is that of the settings
-settings_are : (g : Geometry) (s : Settings) → g ≡ geometry_of s → g.settings ≡ s
+pub literal-shaped-requires-clause-made : goal.literal-shaped-requires-clause-made
+literal-shaped-requires-clause-made g c = subst Made (sym c.geometry_of-g.ensures) (made c.args.settings c.in_ok-check_to_6.ensures.usable)
+
+pub literal-shaped-requires-clause-usual : goal.literal-shaped-requires-clause-usual
+literal-shaped-requires-clause-usual g c = subst Usual (sym c.geometry_of-g.ensures) (usual_of c.args.settings (grind (arith, common_steps, c.requires)))
+
+pub lookup_in-requires-clause-made : goal.lookup_in-requires-clause-made
+lookup_in-requires-clause-made g c =
+    let e : c.if-this-ne0.shaped ≡ geometry_of c.args.settings = elim c.if-this-ne0.branch [ then-this-ne0 w ↦ cc | else-this-ne0 w ↦ cc ] in
+    subst Made (sym e) (made c.args.settings c.in_ok-check_to_6.ensures.usable)
+
+pub lookup_in-requires-clause-seeds_len : goal.lookup_in-requires-clause-seeds_len
 unfolding geometry_of
-settings_are g s e = ap (λ (x : Geometry). x.settings) e
-
-pub returns-then-n-ne0 : goal.returns-then-n-ne0
-returns-then-n-ne0 c =
-    let a = c.args in
-    refused a.settings a.seeds.now a.hash c.number_to_6-n.result c.number_to_6-n.ensures.0 c.if-n-ne0.true
-
-pub returns-then-seeds-buckets : goal.returns-then-seeds-buckets
-returns-then-seeds-buckets c =
-    let a = c.args in
-    refused_13 a.settings a.seeds.now a.hash (none (goal.at.returns-then-seeds-buckets c).Else-n-ne0) c.if-seeds-buckets.true
-
-pub geometry_of-g-requires : goal.geometry_of-g-requires
-geometry_of-g-requires c = usable (goal.at.geometry_of-g-requires c).Else-n-ne0
-
--- past the checks: the geometry is made, the seeds are B long, and what is looked up is the answer
-module _ (c : goal.After-geometry_of-g) where
-  usable_after : Usable c.args.settings
-  usable_after = passes_6 c.args.settings (sym c.number_to_6-n.ensures.0 ∙ c.if-n-ne0.false)
-
-  is_made : Made c.geometry_of-g.result
-  is_made = subst Made (sym c.geometry_of-g.ensures) (made c.args.settings usable_after)
-
-  same_settings : c.geometry_of-g.result.settings ≡ c.args.settings
-  same_settings = settings_are c.geometry_of-g.result c.args.settings c.geometry_of-g.ensures
-
-  long : length c.args.seeds.now ≡ c.geometry_of-g.result.settings.buckets
-  long = c.if-seeds-buckets.false ∙ ap (λ (x : Settings). x.buckets) (sym same_settings)
-
-  answer : Answer (looked_up c.geometry_of-g.result.settings c.args.seeds.now c.args.hash) ≡ lookup_answer c.args.settings c.args.seeds.now c.args.hash
-  answer =
-      let a = c.args in
-      ap (λ (x : Settings). Answer (looked_up x a.seeds.now a.hash)) same_settings
-      ∙ answered a.settings a.seeds.now a.hash usable_after c.if-seeds-buckets.false
-
--- the tests of the default settings tell the shape
-pub literal-requires : goal.literal-requires
-literal-requires c =
-    record {
-      made = is_made (goal.at.literal-requires c).After-geometry_of-g;
-      usual = subst Usual (sym c.geometry_of-g.ensures) (usual_of c.args.settings (of_true (sym c.requires ∙ c.if-default.true)));
-    }
-
-pub lookup_in-requires : goal.lookup_in-requires
-lookup_in-requires c =
-    let e = c.literal.ensures in
-    record {
-      made = subst Made (sym e) (is_made (goal.at.lookup_in-requires c).After-geometry_of-g);
-      seeds_len = long (goal.at.lookup_in-requires c).After-geometry_of-g ∙ ap (λ (g : Geometry). g.settings.buckets) (sym e);
-    }
-
-pub returns-then-default : goal.returns-then-default
-returns-then-default c =
-    let a = c.args in
-    c.lookup_in.ensures
-    ∙ ap (λ (g : Geometry). Answer (looked_up g.settings a.seeds.now a.hash)) c.literal.ensures
-    ∙ answer (goal.at.returns-then-default c).After-geometry_of-g
-
-pub lookup_in-requires-2 : goal.lookup_in-requires-2
-lookup_in-requires-2 c =
-    record {
-      made = is_made (goal.at.lookup_in-requires-2 c).After-geometry_of-g;
-      seeds_len = long (goal.at.lookup_in-requires-2 c).After-geometry_of-g;
-    }
+lookup_in-requires-clause-seeds_len g c =
+    let e : c.if-this-ne0.shaped ≡ geometry_of c.args.settings = elim c.if-this-ne0.branch [ then-this-ne0 w ↦ cc | else-this-ne0 w ↦ cc ] in
+    c.if-seeds-settings.false ∙ sym (ap (λ (x : Geometry). x.settings.buckets) e)
 
 pub returns : goal.returns
-returns c = c.lookup_in-2.ensures ∙ answer (goal.at.returns c).After-geometry_of-g
+unfolding lookup_answer geometry_of
+returns g c =
+    let s = c.args.settings in
+    let e : c.if-this-ne0.shaped ≡ geometry_of s = elim c.if-this-ne0.branch [ then-this-ne0 w ↦ cc | else-this-ne0 w ↦ cc ] in
+    let n : 0 ≡ first_of (lookup_lines s (length c.args.seeds.now)) = grind (arith, common_steps, lookup_last) in
+    looked_says (Ok c.lookup_in.result) _ (looked_up s c.args.seeds.now c.args.hash) n
+    (c.lookup_in.ensures ∙ ap (λ (x : Geometry). looked_up x.settings c.args.seeds.now c.args.hash) e)

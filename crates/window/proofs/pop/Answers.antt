@@ -1,59 +1,45 @@
+-- The bucket of the greatest key: the large one where no queue has a greater key.
+use Prim.Native.Nat.{◌-◌}
 use native.Mathlib.Omega.{arith}
-use Prim.Native.Nat.{ℕ, ◌<◌, ◌≤◌}
-use mathlib.Core.Path.{◌≡◌, refl, subst}
-use lib.IntN.{ℤ}
+use borrow.Author.Tests.{eqb-true}
+use mathlib.Core.Path.{◌≡◌, refl, sym, ap, ap₂, ◌∙◌}
+use lib.IntN.{pos}
+use lib.ListN.{get_or}
+use lib.Signed.{lt_z}
 use mir.Syntax.{w64}
 use mir.Val.{to_z, of_z}
 use mir.Facts.{to_z-of_z}
-use Rattle.window.specs.Changes.{Choice}
+use Rattle.window.specs.Large.{tell, key_in}
+use Rattle.window.proofs.Chosen.{only_large, large_wins}
 use Rattle.window.proofs.pop.Goals as goal
-use Rattle.window.proofs.pop.Goals.{After-whose-size}
 
-below_64 : (r : ℕ) → r ≤ 64 → (r ≡ 64 → ⊥) → r < 64
-below_64 r l n = omega arith
-
--- the choice, by the key that was made
-chosen : (c : goal.After-whose-size) → Choice c.args.keys.now c.args.on c.args.n c.key_told-k.result c.whose-size.result
-chosen c =
-    let back : to_z w64 (of_z w64 c.key_told-k.result) ≡ c.key_told-k.result = to_z-of_z {w = w64} (record { sfits = c.key_told-k.type_inv }) in
-    subst (λ (z : ℤ). Choice c.args.keys.now c.args.on c.args.n z c.whose-size.result) back c.whose-size.ensures
-
-pub key_told-k-requires : goal.key_told-k-requires
-key_told-k-requires c = c.requires.told
-
-pub overflow_sub-result : goal.overflow_sub-result
-overflow_sub-result c = omega (arith, ((chosen (goal.at.overflow_sub-result c).After-whose-size).large c.if-size-eq64.true).0)
-
-pub returns-then-size-eq64 : goal.returns-then-size-eq64
-returns-then-size-eq64 c =
+pub returns-then-is_empty : goal.returns-then-is_empty
+returns-then-is_empty c =
+    let q = c.args.queues.now in
+    let n = tell c.args.large in
+    let e = ap tell c.in-Some.is in
     record {
-      size = c.whose-size.result;
-      key = c.key_told-k.result;
-      keyed = c.key_told-k.ensures;
-      choice = chosen (goal.at.returns-then-size-eq64 c).After-whose-size;
-      queue = λ l. absurd (omega (arith, c.if-size-eq64.true));
-      large = λ e. (refl, refl);
+      size = 64;
+      key = key_in c.args.begins.now c.args.table.now (n - 1);
+      keyed = λ p. refl;
+      choice = only_large q.keys q.nonempty n _ (eqb-true q.nonempty 0 (sym c.is_empty.ensures.value ∙ c.if-is_empty.true)) (omega (arith, e));
+      queue = λ l. absurd (omega arith);
+      large = λ z. (refl, omega (arith, e));
     }
 
-pub shift-s-requires : goal.shift-s-requires
-shift-s-requires c =
-    let h = chosen (goal.at.shift-s-requires c).After-whose-size in
-    let r = c.whose-size.result in
-    let l = below_64 r h.high c.if-size-eq64.false in
-    let on = (h.queue l).0.member in
+pub returns-then-key-key_of : goal.returns-then-key-key_of
+returns-then-key-key_of c =
+    let q = c.args.queues.now in
+    let n = tell c.args.large in
+    let e = ap tell c.in-Some.is in
+    let k : to_z w64 (of_z w64 c.key.result) ≡ get_or q.keys c.top-size-2.result (pos 0) = to_z-of_z {w = w64} (record { sfits = c.key.type_inv }) ∙ c.key.ensures in
+    let l : to_z w64 (of_z w64 c.key_of.result) ≡ key_in c.args.begins.now c.args.table.now c.in-Some.b = to_z-of_z {w = w64} (record { sfits = c.key_of.type_inv }) ∙ c.key_of.ensures in
+    let same : n - 1 ≡ c.in-Some.b = omega (arith, e) in
     record {
-      size_bound = (l, c.requires.low);
-      nonzero = c.requires.filled r l on;
-      pos_bound = c.requires.weights r l on;
-    }
-
-pub returns : goal.returns
-returns c =
-    record {
-      size = c.whose-size.result;
-      key = c.key_told-k.result;
-      keyed = c.key_told-k.ensures;
-      choice = chosen (goal.at.returns c).After-whose-size;
-      queue = λ l. (c.shift-s.ensures.bucket_value, c.shift-s.ensures.nonempty_after);
-      large = λ e. absurd (c.if-size-eq64.false e);
+      size = 64;
+      key = key_in c.args.begins.now c.args.table.now c.in-Some.b;
+      keyed = λ p. ap (key_in c.args.begins.now c.args.table.now) (sym same);
+      choice = large_wins q.keys q.nonempty n _ c.top-size-2.result c.top-size-2.ensures (omega (arith, e)) (ap₂ lt_z (sym k) (sym l) ∙ c.if-key-key_of.true);
+      queue = λ l. absurd (omega arith);
+      large = λ z. (refl, sym same);
     }

@@ -2,8 +2,8 @@ use Rattle.geometry.proofs.Assemble.{assemble}
 use Rattle.std.proofs.Common.{mod-lt, arith}
 use Rattle.geometry.proofs.shape.geometry_of.Goals as goal
 
-pub fraction-q_lo-requires : goal.fraction-q_lo-requires
-fraction-q_lo-requires c = (mod-lt c.slice_count-slices.result (omega (arith, c.requires.odd)), omega (arith, c.requires.buckets_high))
+pub fraction-requires : goal.fraction-requires
+fraction-requires c = (mod-lt c.slice_count-slices.result (omega (arith, c.requires.odd)), omega (arith, c.requires.buckets_high))
 
 pub returns : goal.returns
-returns c = assemble c.args.s _ _ _ _ _ _ _ _ _ _ _ (omega (arith, c.requires.odd)) c.slice_len-l.ensures.0 c.log2_len-log2_l.ensures.0 c.slice_count-slices.ensures.0 c.less-scale.ensures c.power_of_two-layouts.ensures.0 c.stride_of-stride.ensures.0 c.per_bucket-p.ensures.0 c.power_of_two-span.ensures.0 c.power_of_two-seeds.ensures.0 c.fraction-q_lo.ensures c.slots_of-slots.ensures.0
+returns c = assemble c.args.s _ _ _ _ _ _ _ _ _ _ _ (omega (arith, c.requires.odd)) c.slice_len-l.ensures.0 c.log2_len-log2_l.ensures.0 c.slice_count-slices.ensures.0 c.saturating_sub-scale.ensures c.power_of_two-layouts.ensures.0 c.stride_of-stride.ensures.0 c.per_bucket-per_bucket.ensures.0 c.power_of_two-span.ensures.0 c.power_of_two.ensures.0 c.fraction.ensures c.slots_of.ensures.0

@@ -2,12 +2,8 @@
 use Rattle.level_check.proofs.Walking.{Walking}
 use Rattle.level_check.specs.Check.{level_of}
 use lib.ListN.{length}
-use Prim.Native.Nat.{◌-◌, ◌≤◌}
 use mathlib.Core.Path.{◌≡◌}
 use Rattle.level_check.proofs.slots.mark_buckets.Given as goal
 
 abbrev pub invariant-loop-b : goal.invariant-loop-b
-invariant-loop-b l = (l.b ≤ length l.seeds) × (length l.scratch ≡ length l.initial.scratch) × Walking (level_of l.g.settings l.hashes l.begins) l.seeds l.b l.scratch
-
-abbrev pub decreases-loop-b : goal.decreases-loop-b
-decreases-loop-b l = length l.seeds - l.b
+invariant-loop-b l = (length l.scratch ≡ length l.initial.scratch) × Walking (level_of l.g.settings l.hashes l.begins) l.seeds l.b l.scratch

@@ -1,38 +1,10 @@
 -- `load_ring` loads one column after another, as many as the ring has; then the ring is a cache of the bitmap from column c on.
-use mathlib.Core.Path.{refl, ◌∙◌}
-use native.Mathlib.Omega.{arith}
-use Rattle.rings.specs.CacheLaws.{cached_none, cached_more, cached_all, col_small}
+use Rattle.rings.specs.CacheLaws.{cached_more, cached_all}
 use Rattle.rings.proofs.columns.load_ring.Goals as goal
-
-pub loop-k-init : goal.loop-k-init
-loop-k-init c = (refl, omega arith, cached_none c.requires.shape c.args.c _)
-
-pub overflow_add-c : goal.overflow_add-c
-overflow_add-c c =
-    omega (arith, (col_small c.args.g c.requires.shape c.args.c c.loop-k.k c.requires.words_in_bounds.1 c.loop-k-test.true).1)
-
-pub load_column-requires : goal.load_column-requires
-load_column-requires c =
-    record {
-      shape = c.requires.shape;
-      words_in_bounds = (omega (arith, c.requires.words_in_bounds.0, c.loop-k.invariant.0), (col_small c.args.g c.requires.shape c.args.c c.loop-k.k c.requires.words_in_bounds.1 c.loop-k-test.true).0);
-    }
-
-pub overflow_add-k : goal.overflow_add-k
-overflow_add-k c =
-    omega (arith, (col_small c.args.g c.requires.shape c.args.c c.loop-k.k c.requires.words_in_bounds.1 c.loop-k-test.true).1)
-
-pub loop-k-smaller : goal.loop-k-smaller
-loop-k-smaller c = omega (arith, c.loop-k-test.true)
 
 pub loop-k-preserved : goal.loop-k-preserved
 loop-k-preserved c =
-    let v = c.loop-k.invariant in
-    let t = c.loop-k-test.true in
-    (c.load_column.auto.work ∙ v.0, omega arith, cached_more c.requires.shape c.args.c t v.2 c.load_column.ensures)
-
-pub shape_of-work : goal.shape_of-work
-shape_of-work c = c.loop-k.invariant.0
+    cached_more c.requires.shape c.args.c c.loop-k-test.true c.loop-k.invariant c.load_column.ensures
 
 pub returns : goal.returns
-returns c = cached_all c.requires.shape c.args.c c.loop-k-test.false c.loop-k.invariant.2
+returns c = cached_all c.requires.shape c.args.c c.loop-k-test.false c.loop-k.invariant

@@ -19,7 +19,7 @@ pub none_used-empty-requires : goal.none_used-empty-requires
 none_used-empty-requires c = omega (arith, stride c.args.t c.requires.0)
 
 pub loop-i-init : goal.loop-i-init
-loop-i-init c = (omega arith, loaded_none _ _ _ _ _)
+loop-i-init c = loaded_none _ _ _ _ _
 
 pub overflow_add-from-in-loop-i : goal.overflow_add-from-in-loop-i
 overflow_add-from-in-loop-i c = omega (arith, stride c.args.t c.requires.0)
@@ -40,19 +40,13 @@ pub offset_bounds-work-a : goal.offset_bounds-work-a
 offset_bounds-work-a c = omega (arith, stride c.args.t c.requires.0)
 
 pub bounds-work-a : goal.bounds-work-a
-bounds-work-a c = omega (arith, stride c.args.t c.requires.0, c.loop-i.invariant.1.len)
-
-pub overflow_add-i : goal.overflow_add-i
-overflow_add-i c = omega (arith, stride c.args.t c.requires.0)
+bounds-work-a c = omega (arith, stride c.args.t c.requires.0, c.loop-i.invariant.len)
 
 pub loop-i-preserved : goal.loop-i-preserved
 loop-i-preserved c =
-    (omega arith, loaded_more c.loop-i.invariant.1 (omega (arith, stride c.args.t c.requires.0)) c.column_word.ensures)
-
-pub shape_of-work : goal.shape_of-work
-shape_of-work c = c.loop-i.invariant.1.len
+    loaded_more c.loop-i.invariant (omega (arith, stride c.args.t c.requires.0)) c.column_word.ensures
 
 pub returns : goal.returns
 returns c =
     let e : c.loop-i.i ≡ 2 ^ c.args.t = omega (arith, stride c.args.t c.requires.0) in
-    rw e at c.loop-i.invariant.1
+    rw e at c.loop-i.invariant

@@ -1,10 +1,13 @@
 -- `bar` gives the barred rotation: bit 0 of the first word of layout 0 where n = R, and nothing elsewhere.
-use native.Mathlib.Omega.{arith}
+use Rattle.std.proofs.Common.{◌≡◌, ◌≢◌, eq-eqb, ne_eqb, ⊎_elim}
+use Rattle.words.specs.Cases.{same_or_not}
 use Rattle.rings.specs.FreeLaws.{bar_ring, bar_yes}
 use Rattle.rings.proofs.free.bar.Goals as goal
 
-pub returns-then-g : goal.returns-then-g
-returns-then-g c = bar_ring _ (λ e. omega arith)
-
 pub returns : goal.returns
-returns c = bar_yes _ (omega arith)
+returns c =
+    let g = c.args.g in
+    ⊎_elim
+    (λ (e : g.n ≡ g.rotations). rw (c.from.ensures, eq-eqb g.n g.rotations e) (bar_yes g e))
+    (λ (n : g.n ≢ g.rotations). rw (c.from.ensures, ne_eqb g.n g.rotations n) (bar_ring g n))
+    (same_or_not g.n g.rotations)

@@ -1,6 +1,7 @@
 -- `mark_keys` marks key after key up to one whose slot is marked already; the keys lie above the ring, so no mark changes them.
 use borrow.Author.Tests.{not-true, not-false}
 use native.Mathlib.Omega.{arith}
+use mathlib.Core.Path.{◌≡◌}
 use Rattle.rings.specs.PlaceLaws.{marking_none, marking_ok, marking_met, marking_more, marking_all}
 use Rattle.rings.proofs.place.mark_keys.Goals as goal
 
@@ -15,16 +16,6 @@ slot_of-p-requires c =
       start_bound = c.requires.start_bound;
     }
 
-pub take_slot-requires : goal.take_slot-requires
-take_slot-requires c =
-    record {
-      shape = c.requires.shape;
-      words_in_bounds = omega arith;
-    }
-
-pub shape_of-work-then-not-take_slot : goal.shape_of-work-then-not-take_slot
-shape_of-work-then-not-take_slot c = omega (arith, c.take_slot.auto)
-
 pub returns-then-not-take_slot : goal.returns-then-not-take_slot
 returns-then-not-take_slot c =
     marking_met c.requires.shape c.loop-i.invariant c.requires.words_le_at.0 c.loop-i-test.true c.slot_of-p.ensures c.take_slot.ensures (not-true _ c.if-not-take_slot.true-raw)
@@ -34,4 +25,6 @@ loop-i-preserved c =
     marking_more c.requires.shape c.loop-i.invariant c.requires.words_le_at.0 c.loop-i-test.true c.slot_of-p.ensures c.take_slot.ensures (not-false _ c.if-not-take_slot.false-raw)
 
 pub returns : goal.returns
-returns c = marking_all c.loop-i.invariant c.loop-i-test.false
+returns c =
+    let e : c.loop-i.i ≡ c.args.size = omega arith in
+    rw e at (marking_all c.loop-i.invariant c.loop-i-test.false)

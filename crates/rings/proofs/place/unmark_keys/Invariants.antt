@@ -5,6 +5,3 @@ use Rattle.rings.proofs.place.unmark_keys.Given as goal
 
 abbrev pub invariant-loop-i : goal.invariant-loop-i
 invariant-loop-i l = Unmarking l.g l.initial.work (part l.initial.work l.at l.size) l.at l.size l.start l.j l.count l.i l.work
-
-abbrev pub decreases-loop-i : goal.decreases-loop-i
-decreases-loop-i l = l.i

@@ -1,13 +1,9 @@
--- `sorting::neighbours::equal_neighbours` meets its contract. The invariant: whether the run has equal neighbours is whether they are among
--- the keys from i on. Assumes nothing.
-use mathlib.Core.Path.{◌≡◌}
-use Prim.Native.Nat.{◌≤◌, ◌-◌}
-use lib.ListN.{length, drop}
+-- `sorting::neighbours::equal_neighbours` meets its contract. The invariant: whether the run has equal neighbours is whether what is left
+-- to look at has. Assumes nothing.
+use Rattle.std.proofs.Common.{◌≡◌}
+use Rattle.std.specs.Slice.Iter.{windows_size, windows_rest}
 use Rattle.sorting.specs.Runs.{twins}
 use Rattle.sorting.proofs.neighbours.equal_neighbours.Given as goal
 
-abbrev pub invariant-loop-i : goal.invariant-loop-i
-invariant-loop-i l = (l.i ≤ length l.run) × (twins (drop l.i l.run) ≡ twins l.run)
-
-abbrev pub decreases-loop-i : goal.decreases-loop-i
-decreases-loop-i l = length l.run - l.i
+abbrev pub invariant-loop-pair : goal.invariant-loop-pair
+invariant-loop-pair l = (windows_size l.pair-iterator ≡ 2) × (twins (windows_rest l.pair-iterator) ≡ twins l.run)

@@ -3,4 +3,4 @@ use Rattle.sweep.proofs.RangeLaws.{count_by}
 use Rattle.sweep.proofs.chunks.chunk_count.Goals as goal
 
 pub returns : goal.returns
-returns c = count_by c.args.g.settings c.args.gap c.args.c _ _ _ c.requires.gap_value.0 c.larger.ensures c.smaller.ensures c.larger-2.ensures c.requires.made.usable.buckets_high
+returns c = count_by c.args.g.settings c.args.gap c.args.c _ _ _ c.requires.gap_value.0 c.max.ensures c.min.ensures c.max-2.ensures c.requires.made.usable.buckets_high

@@ -1,11 +1,7 @@
 use Rattle.sweep.proofs.CountLaws.{counts_at}
 use Rattle.sweep.specs.Counting.{Counted}
-use lib.ListN.{length}
-use Prim.Native.Nat.{◌-◌, ◌*◌, ◌≤◌}
+use Prim.Native.Nat.{◌*◌, ◌≤◌}
 use Rattle.sweep.proofs.counting.counted.Given as goal
 
 abbrev pub invariant-loop-b : goal.invariant-loop-b
-invariant-loop-b l = (l.b ≤ length l.seeds) × Counted l.begins l.seeds l.b (counts_at l.placed l.bumped l.zero) × (l.placed ≤ l.b * 4294967296) × (l.bumped ≤ l.b * 4294967296) × (l.zero ≤ l.b)
-
-abbrev pub decreases-loop-b : goal.decreases-loop-b
-decreases-loop-b l = length l.seeds - l.b
+invariant-loop-b l = Counted l.begins l.seeds l.b (counts_at l.placed l.bumped l.zero) × (l.placed ≤ l.b * 4294967296) × (l.bumped ≤ l.b * 4294967296) × (l.zero ≤ l.b)

@@ -8,6 +8,7 @@ use Rattle.rules.specs.Good.{Moderate}
 use Rattle.rules.specs.Order.{input_of}
 use Rattle.rules.specs.Chunks.{chunk_count}
 use Rattle.rules.specs.Chunks as R
+use Rattle.std.proofs.lemmas.Result.{err_from_is_err_and}
 use Rattle.sweep.proofs.StartLaws.{rests}
 use Rattle.sweep.proofs.RunLaws.{next_range, ran_all, ran_at, span_is, span_count, span_room, rests_first, rests_more}
 use Rattle.sweep.proofs.turning.run.Goals as goal
@@ -36,7 +37,7 @@ pub overflow_sub-ranges : goal.overflow_sub-ranges
 overflow_sub-ranges c = omega (arith, c.chunk_count-chunks.ensures.1)
 
 pub loop-k-init : goal.loop-k-init
-loop-k-init c = (λ i k e r. rests_first k r, omega arith, refl, refl, refl)
+loop-k-init c = (λ i k e r. rests_first k r, refl, refl, refl)
 
 pub range_at-span-requires : goal.range_at-span-requires
 range_at-span-requires c =
@@ -46,8 +47,8 @@ range_at-span-requires c =
       gap_value = (c.chunk_gap-gap.ensures.0, c.chunk_count-chunks.ensures.1, c.chunk_count-chunks.ensures.2, span_room i c.args.g refl c.chunk_count-chunks.result c.args.how.chunks c.chunk_count-chunks.ensures.0 c.chunk_gap-gap.result c.chunk_gap-gap.ensures.0, c.loop-k-test.true);
     }
 
-pub run_range-ended-requires : goal.run_range-ended-requires
-run_range-ended-requires c =
+pub run_range-requires : goal.run_range-requires
+run_range-requires c =
     let i = input_of c.args.g.settings c.args.weights c.args.hashes.now c.args.begins.now c.args.table.now in
     let n = c.chunk_count-chunks.result in
     let m = c.args.how.chunks in
@@ -58,17 +59,8 @@ run_range-ended-requires c =
       ranging = record { i = i; pre = _; next = next_range m c.loop-k.k here (omega (arith, span_count i c.args.g refl n m e, c.loop-k-test.true)) _ _ (span_is i c.args.g refl n m e c.loop-k.k _ _ c.range_at-span.ensures) };
     }
 
-pub shape_of-seeds-in-At : goal.shape_of-seeds-in-At
-shape_of-seeds-in-At c = c.run_range-ended.auto.seeds ∙ c.loop-k.invariant.2
-
-pub shape_of-bitmap-in-At : goal.shape_of-bitmap-in-At
-shape_of-bitmap-in-At c = c.run_range-ended.auto.bitmap ∙ c.loop-k.invariant.3
-
-pub shape_of-work-in-At : goal.shape_of-work-in-At
-shape_of-work-in-At c = c.run_range-ended.auto.work ∙ c.loop-k.invariant.4
-
-pub returns-in-At : goal.returns-in-At
-returns-in-At c =
+pub returns-in_err-run_range : goal.returns-in_err-run_range
+returns-in_err-run_range c =
     let i = input_of c.args.g.settings c.args.weights c.args.hashes.now c.args.begins.now c.args.table.now in
     let n = c.chunk_count-chunks.result in
     let m = c.args.how.chunks in
@@ -77,14 +69,9 @@ returns-in-At c =
     let here = c.loop-k.invariant.0 i m e (rests c.requires _ _ c.weight_table-by_size.ensures) in
     let h : k < length (R.ranges i.settings m) = omega (arith, span_count i c.args.g refl n m e, c.loop-k-test.true) in
     let at = span_is i c.args.g refl n m e k _ _ c.range_at-span.ensures in
-    let f = c.run_range-ended.ensures i _ (next_range m k here h _ _ at) in
-    ran_at m k h at f c.in-At.is c.args.how refl refl
-
-pub overflow_add-k : goal.overflow_add-k
-overflow_add-k c = omega (arith, c.loop-k-test.true, c.chunk_count-chunks.ensures.2)
-
-pub loop-k-smaller : goal.loop-k-smaller
-loop-k-smaller c = omega (arith, c.loop-k-test.true)
+    let f = c.run_range.ensures i _ (next_range m k here h _ _ at) in
+    let p = err_from_is_err_and c.from_residual.result c.from_residual.ensures.1 in
+    rw (p.1, p.2) (ran_at m k h at f c.in_err-run_range.was c.args.how refl refl)
 
 pub loop-k-preserved : goal.loop-k-preserved
 loop-k-preserved c = (
@@ -96,21 +83,20 @@ loop-k-preserved c = (
       let h : k < length (R.ranges i.settings m) = omega (arith, span_count i c.args.g same n m e, c.loop-k-test.true) in
       let at = span_is i c.args.g same n m e k _ _ c.range_at-span.ensures in
       let next = next_range m k here h _ _ at in
-      rests_more m k h at next (c.run_range-ended.ensures i _ next) c.in_default.is c.run_range-ended.auto.work,
-  omega (arith, c.loop-k-test.true),
-  c.run_range-ended.auto.seeds ∙ c.loop-k.invariant.2,
-  c.run_range-ended.auto.bitmap ∙ c.loop-k.invariant.3,
-  c.run_range-ended.auto.work ∙ c.loop-k.invariant.4,
+      rests_more m k h at next (c.run_range.ensures i _ next) c.in_ok-run_range.was c.run_range.auto.work,
+  c.run_range.auto.seeds ∙ c.loop-k.invariant.1,
+  c.run_range.auto.bitmap ∙ c.loop-k.invariant.2,
+  c.run_range.auto.work ∙ c.loop-k.invariant.3,
 )
 
 pub shape_of-seeds : goal.shape_of-seeds
-shape_of-seeds c = c.loop-k.invariant.2
+shape_of-seeds c = c.loop-k.invariant.1
 
 pub shape_of-bitmap : goal.shape_of-bitmap
-shape_of-bitmap c = c.loop-k.invariant.3
+shape_of-bitmap c = c.loop-k.invariant.2
 
 pub shape_of-work : goal.shape_of-work
-shape_of-work c = c.loop-k.invariant.4
+shape_of-work c = c.loop-k.invariant.3
 
 pub returns : goal.returns
 returns c =

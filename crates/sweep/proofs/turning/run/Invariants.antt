@@ -2,7 +2,7 @@
 -- and after the last they are all turns of the sweep.
 use mathlib.Core.List.{[]}
 use mathlib.Core.Path.{◌≡◌}
-use Prim.Native.Nat.{ℕ, ◌-◌, ◌≤◌}
+use Prim.Native.Nat.{ℕ}
 use lib.ListN.{length}
 use Rattle.rules.specs.Order.{Input}
 use Rattle.rules.specs.Chunks.{chunk_count}
@@ -15,7 +15,4 @@ abbrev pub invariant-loop-k : goal.invariant-loop-k
 invariant-loop-k l =
     ((i : Input) (c : ℕ) → l.chunks ≡ chunk_count l.g.settings c → Resting i l.g l.bump l.hashes l.begins l.table l.by_size [] l.z l.initial.seeds l.initial.bitmap l.initial.work
     → Resting i l.g l.bump l.hashes l.begins l.table l.by_size (up_to i (R.ranges i.settings c) l.k) l.z l.seeds l.bitmap l.work)
-    × (l.k ≤ l.ranges) × (length l.seeds ≡ length l.initial.seeds) × (length l.bitmap ≡ length l.initial.bitmap) × (length l.work ≡ length l.initial.work)
-
-abbrev pub decreases-loop-k : goal.decreases-loop-k
-decreases-loop-k l = l.ranges - l.k
+    × (length l.seeds ≡ length l.initial.seeds) × (length l.bitmap ≡ length l.initial.bitmap) × (length l.work ≡ length l.initial.work)

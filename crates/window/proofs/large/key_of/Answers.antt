@@ -16,14 +16,6 @@ use Rattle.window.proofs.large.key_of.Goals as goal
 back : (table : List ℤ) (k : ℕ) → nat_abs (get_or table k (pos 0)) ≤ 2 ^ 32 → to_z w64 (of_z w64 (get_or table k (pos 0))) ≡ get_or table k (pos 0)
 back table k h = to_z-of_z (small_fits (get_or table k (pos 0)) (omega (arith, h)))
 
-pub beyond-w-requires : goal.beyond-w-requires
-beyond-w-requires c =
-    let n = c.size_of-size.ensures.0 in
-    record {
-      w6_bound = simp (back c.args.table.now 6 c.requires.measured.sixth, back c.args.table.now 7 c.requires.measured.seventh) (c.requires.measured.sixth, c.requires.measured.seventh);
-      le_size = (omega (arith, n, c.requires.bound), omega (arith, n, c.requires.measured.sizes c.args.b (omega arith)));
-    }
-
 pub returns : goal.returns
 unfolding large_key
 returns c =

@@ -1,5 +1,5 @@
 use mathlib.Core.Path.{◌≡◌, ap, ap₂, ◌∙◌}
-use Prim.Native.Nat.{ℕ, ◌<◌}
+use Prim.Native.Nat.{ℕ}
 use native.Mathlib.Omega.{arith}
 use lib.IntN.{ℤ, pos, nat_abs}
 use mathlib.Core.List.{List}
@@ -10,7 +10,7 @@ use mir.Val.{to_z, of_z}
 use mir.Facts.{to_z-of_z}
 use Rattle.integers.specs.Ints.{small_fits}
 use Rattle.window.specs.Large.{lowest, better_of}
-use Rattle.window.proofs.LargeLaws.{start, step, ended}
+use Rattle.window.proofs.LargeLaws.{start, step}
 use Rattle.window.proofs.large.largest.Goals as goal
 
 -- an entry of the table is read back from its bits
@@ -21,31 +21,8 @@ pub loop-b-init : goal.loop-b-init
 unfolding lowest
 loop-b-init c = start c.args.set.now c.args.begins.now c.args.table.now c.args.o c.args.e c.requires.range.0
 
-pub size_of-size-requires : goal.size_of-size-requires
-size_of-size-requires c =
-    record { placed = omega (arith, c.requires.measured.long, c.loop-b-test.true); rises = c.requires.measured.rises c.loop-b.b (omega (arith, c.loop-b-test.true)) }
-
-pub better-best-requires : goal.better-best-requires
-better-best-requires c =
-    let l : c.loop-b.b < c.args.e = omega (arith, c.loop-b-test.true) in
-    record {
-      set_len = c.requires.slots;
-      w6_bound = simp (back c.args.table.now 6 c.requires.measured.sixth, back c.args.table.now 7 c.requires.measured.seventh) (c.requires.measured.sixth, c.requires.measured.seventh);
-      size_bound = (omega (arith, c.size_of-size.ensures.0, c.requires.measured.sizes c.loop-b.b l), omega (arith, l, c.requires.measured.low));
-    }
-
-pub overflow_add-b : goal.overflow_add-b
-overflow_add-b c = omega (arith, c.loop-b-test.true, c.requires.measured.low)
-
-pub loop-b-smaller : goal.loop-b-smaller
-loop-b-smaller c = omega (arith, c.loop-b-test.true)
-
 pub loop-b-preserved : goal.loop-b-preserved
 loop-b-preserved c =
     step c.args.set.now c.args.begins.now c.args.table.now c.args.o c.args.e c.requires c.loop-b.b c.loop-b.best c.loop-b.invariant (omega (arith, c.loop-b-test.true)) c.better-best.result
     (c.better-best.ensures ∙ ap₂ (λ (u v : ℤ). better_of c.args.set.now u v c.loop-b.best c.size_of-size.result c.loop-b.b) (back c.args.table.now 6 c.requires.measured.sixth) (back c.args.table.now 7 c.requires.measured.seventh)
     ∙ ap (λ (n : ℕ). better_of c.args.set.now (get_or c.args.table.now 6 (pos 0)) (get_or c.args.table.now 7 (pos 0)) c.loop-b.best n c.loop-b.b) c.size_of-size.ensures.0)
-
-pub returns : goal.returns
-returns c =
-    ended c.args.set.now c.args.begins.now c.args.table.now c.args.o c.args.e c.loop-b.b c.loop-b.best c.loop-b.invariant (omega (arith, c.loop-b-test.false))

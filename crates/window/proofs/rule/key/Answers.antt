@@ -16,11 +16,6 @@ small c = to_z_pos w64 (omega arith)
 product_fits : (c : goal.Start) → SFits w64 (pos (1024 * c.args.b))
 product_fits c = record { sfits = omega arith }
 
-pub overflow_mul-result : goal.overflow_mul-result
-overflow_mul-result c =
-    let s = (goal.at.overflow_mul-result c).Start in
-    rw (small s) (product_fits s)
-
 whole : (c : goal.Start) → SFits w64 (c.args.weight -ℤ pos (1024 * c.args.b))
 whole c = priority_fits c.args.weight c.args.b c.requires.0 c.requires.1
 
@@ -32,22 +27,6 @@ low c = to_z_pos w64 (omega arith)
 
 key : (c : goal.Start) → SFits w64 (key_of c.args.weight c.args.b)
 key c = key_fits c.args.weight c.args.b c.requires.0 c.requires.1
-
-pub overflow_sub-result : goal.overflow_sub-result
-overflow_sub-result c =
-    let s = (goal.at.overflow_sub-result c).Start in
-    simp (small s, to_z-of_z c.ranges.weight, to_z-of_z (product_fits s)) (whole s)
-
-pub overflow_mul-result-2 : goal.overflow_mul-result-2
-overflow_mul-result-2 c =
-    let s = (goal.at.overflow_mul-result-2 c).Start in
-    simp (small s, to_z-of_z c.ranges.weight, to_z-of_z (product_fits s), to_z-of_z (whole s)) (scaled s)
-
-pub overflow_add-result : goal.overflow_add-result
-unfolding key_of
-overflow_add-result c =
-    let s = (goal.at.overflow_add-result c).Start in
-    simp (small s, low s, to_z-of_z c.ranges.weight, to_z-of_z (product_fits s), to_z-of_z (whole s), to_z-of_z (scaled s)) (key s)
 
 pub returns : goal.returns
 unfolding key_of

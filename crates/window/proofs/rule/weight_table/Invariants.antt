@@ -1,7 +1,7 @@
 use Rattle.rules.specs.Order.{weight}
 use lib.ListN.{length, get_or}
 use lib.IntN.{ℤ, pos}
-use Prim.Native.Nat.{ℕ, ◌-◌, ◌≤◌, ◌<◌}
+use Prim.Native.Nat.{ℕ, ◌≤◌, ◌<◌}
 use mathlib.Core.List.{List}
 use mathlib.Core.Path.{◌≡◌}
 use Rattle.window.proofs.rule.weight_table.Given as goal
@@ -15,6 +15,3 @@ pub record Filled (ws t : List ℤ) (k : ℕ) : Type 0 where
 
 abbrev pub invariant-loop-size : goal.invariant-loop-size
 invariant-loop-size l = Filled l.weights l.table l.size
-
-abbrev pub decreases-loop-size : goal.decreases-loop-size
-decreases-loop-size l = 64 - l.size

@@ -1,11 +1,9 @@
+-- The weights so far lie within their bounds.
 use Rattle.window.specs.Key.{Within}
 use lib.ListN.{length}
-use Prim.Native.Nat.{◌-◌, ◌<◌}
+use Prim.Native.Nat.{◌<◌}
 use mathlib.Core.Path.{◌≡◌}
 use Rattle.window_runs.proofs.made.weights.Given as goal
 
 abbrev pub invariant-loop-k : goal.invariant-loop-k
 invariant-loop-k l = (length l.w ≡ 7) × ((l.x < 2147483648) × Within l.w)
-
-abbrev pub decreases-loop-k : goal.decreases-loop-k
-decreases-loop-k l = 7 - l.k

@@ -1,6 +1,27 @@
+-- An empty window is the first one; each turn leaves a window that waits for the next.
+use Rattle.window.proofs.WindowLaws.{not_empty}
+use Prim.Native.Nat.{◌+◌}
+use mathlib.Core.Path.{sym, ◌∙◌, subst}
+use Rattle.window.specs.Window.{State, Waiting}
 use Rattle.window_runs.proofs.Begun.{begun}
 use Rattle.window_runs.proofs.turns.order.Goals as goal
 
-pub all-requires : goal.all-requires
-all-requires c =
-    begun c.args.weights c.args.begins.now c.weight_table-table.result c.args.lo c.args.hi c.requires.sized c.requires.within c.weight_table-table.ensures c.requires.lo_le_hi.0 c.requires.lo_le_hi.1
+pub loop-turn-init : goal.loop-turn-init
+loop-turn-init c =
+    let P : State → Type 0 = λ s. Waiting c.args.begins.now c.weight_table-table.result c.args.hi s in
+    subst P (sym c.new-window.ensures)
+    (begun c.args.weights c.args.begins.now c.weight_table-table.result c.args.lo c.args.hi c.requires.sized c.requires.within c.weight_table-table.ensures c.requires.lo_le_hi.0 c.requires.lo_le_hi.1)
+
+pub take-b-requires : goal.take-b-requires
+take-b-requires c =
+    let d = c.loop-turn.invariant in
+    record {
+      filled = record { i = d.i; lo = d.lo; hi = c.args.hi; k = d.k; ranged = d.ranged; full = c.refill.ensures d.i d.lo d.k d.ranged d.windowed };
+      large_nonzero = not_empty _ _ (sym c.is_empty.ensures.value ∙ c.if-is_empty.false);
+    }
+
+pub loop-turn-preserved : goal.loop-turn-preserved
+loop-turn-preserved c =
+    let d = c.loop-turn.invariant in
+    let t = c.take-b.ensures.turned d.i d.lo c.args.hi d.k d.ranged (c.refill.ensures d.i d.lo d.k d.ranged d.windowed) in
+    record { i = d.i; lo = d.lo; k = d.k + 1; ranged = d.ranged; windowed = t.windowed }

@@ -1,9 +1,0 @@
--- Each of the 4 entries is printed: the index stays below 4.
-use Prim.Native.Nat.{◌≤◌, ◌-◌}
-use Rattle.sweep_runs.proofs.lending.put_bitmap.Given as goal
-
-abbrev pub invariant-loop-i : goal.invariant-loop-i
-invariant-loop-i l = l.i ≤ 4
-
-abbrev pub decreases-loop-i : goal.decreases-loop-i
-decreases-loop-i l = 4 - l.i

@@ -1,8 +1,0 @@
-use Rattle.window.proofs.Tops.{Seen}
-use Rattle.window.proofs.queues.top.Given as goal
-
-abbrev pub invariant-loop-rest : goal.invariant-loop-rest
-invariant-loop-rest l = Seen l.keys l.nonempty l.size l.best l.rest
-
-abbrev pub decreases-loop-rest : goal.decreases-loop-rest
-decreases-loop-rest l = l.rest
