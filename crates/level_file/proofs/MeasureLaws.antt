@@ -33,9 +33,6 @@ pub record Measuring (fine : Bool) (whole : List ℕ) (fineLeft : Bool) (left : 
   pub same_fine : fine ≡ fineLeft
   pub so_far : length (bytes_of whole) ≡ total + length (bytes_of left)
 
-pub measuring_start : (fine : Bool) (whole : List ℕ) → Measuring fine whole fine whole 0
-measuring_start fine whole = record { same_fine = refl; so_far = omega arith }
-
 module _ (fine : Bool) (whole : List ℕ) (fineLeft : Bool) (left : List ℕ) (total : ℕ) (m : Measuring fine whole fineLeft left total) where
   pub measuring_bad : fineLeft ≡ false → None ≡ measured fine whole
   unfolding measured

@@ -12,6 +12,9 @@ pub use reading::{Level, read_file};
 use rules::Refusal;
 pub use writing::write_file;
 
+// The only version of the format, the first number of a file.
+const VERSION: u64 = 1;
+
 // The number at a place and the place after it. Refused: FileShort where there is none.
 #[tactic(auto, unfolding(crate::specs::Taking::taken_of, crate::specs::Taking::taken_at))]
 pub fn take_at(bytes: &[u8], at: usize) -> Result<Decoded, Refusal>

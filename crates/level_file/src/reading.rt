@@ -5,7 +5,7 @@ ghost use Rattle.level_file.specs.Reading.{numbers_at, holes_at, checked_at, hea
 ghost use Rattle.level_file.specs.Format.{not_below};
 ghost use Rattle.level_file.specs.Answer.{counted, LeavesSeeds, LeavesHoles, said_read, read_answer, seeds_after, holes_after};
 
-use crate::Reader;
+use crate::{Reader, VERSION};
 use geometry::settings::check_settings;
 use integers::power::power_of_two;
 use rules::{Refusal, Settings};
@@ -71,7 +71,7 @@ pub fn read_settings(reader: &mut Reader) -> Result<Settings, Refusal>
     Ok(settings)
 }
 
-// The version and the settings, from the start of the file. Refused: FileShort, FileVersion for a version other than 1, and what
+// The version and the settings, from the start of the file. Refused: FileShort, FileVersion for another version, and what
 // `read_settings` refuses.
 pub fn read_head(reader: &mut Reader) -> Result<Settings, Refusal>
     requires { reader.old.at ≡ 0 }
@@ -79,7 +79,7 @@ pub fn read_head(reader: &mut Reader) -> Result<Settings, Refusal>
     ensures same { reader.new.bytes.now ≡ reader.old.bytes.now }
 {
     let version = reader.next()?;
-    if version != 1 {
+    if version != VERSION {
         return Err(Refusal::FileVersion);
     }
     read_settings(reader)

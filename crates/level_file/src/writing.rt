@@ -6,6 +6,7 @@ ghost use Rattle.house_numbers.specs.Encode.{encoded};
 ghost use Rattle.level_file.specs.Format.{level_of, settings_numbers, gaps_from, bytes_of, file_of, not_below, all_but, holes_fine, filled};
 ghost use Rattle.level_file.specs.Writing.{write_number, said_written, write_answer, bytes_after, measured, Climbs};
 
+use crate::VERSION;
 use geometry::settings::check_settings;
 use house_numbers::{group_count, put_groups};
 use integers::power::power_of_two;
@@ -48,17 +49,30 @@ pub fn measure_holes(holes: &[u32], m: u64) -> Option<usize>
     Some(total)
 }
 
+// The version and the settings, in the order in which a file has them.
+#[tactic(auto, unfolding(crate::specs::Format::settings_numbers))]
+fn head_numbers(settings: Settings) -> [u64; 6]
+    ensures { result ≡ 1 ∷ settings_numbers settings }
+{
+    let Settings {
+        m,
+        log2_slice_len,
+        ll,
+        sb,
+        buckets,
+    } = settings;
+    [VERSION, m, log2_slice_len, ll, sb, buckets]
+}
+
 // The bytes of the version, the settings and the hole count.
 pub fn measure_head(settings: Settings, count: u64) -> usize
     ensures { (result ≡ length (bytes_of (1 ∷ settings_numbers settings)) + length (encoded count)) × (result ≤ 70) }
 {
-    group_count(1)
-        + group_count(settings.m)
-        + group_count(settings.log2_slice_len)
-        + group_count(settings.ll)
-        + group_count(settings.sb)
-        + group_count(settings.buckets)
-        + group_count(count)
+    let mut total = 0;
+    for number in head_numbers(settings) {
+        total += group_count(number);
+    }
+    total + group_count(count)
 }
 
 // Whether the level may be written into so much room. Refused: what `check_settings` refuses, Lengths, FileValue, and FileRoom where
@@ -89,15 +103,8 @@ pub fn put_head(settings: Settings, out: &mut [u8]) -> usize
     ensures value { result ≡ length (bytes_of (1 ∷ settings_numbers settings)) }
     ensures out_after { out.new ≡ sets out.old 0 (bytes_of (1 ∷ settings_numbers settings)) }
 {
-    let Settings {
-        m,
-        log2_slice_len,
-        ll,
-        sb,
-        buckets,
-    } = settings;
     let mut place = 0;
-    for number in [1, m, log2_slice_len, ll, sb, buckets] {
+    for number in head_numbers(settings) {
         place = put_groups(number, out, place);
     }
     place

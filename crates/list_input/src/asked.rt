@@ -4,6 +4,7 @@ ghost use Rattle.std.proofs.lemmas.List.Edits.{sets};
 ghost use Rattle.list_input.specs.Form.{well_formed};
 ghost use Rattle.list_input.specs.Asked.{weight_of, settings_of, bump_of, weights_of, hashes_of, begins_of, over_size};
 
+use crate::HEAD;
 use rules::Settings;
 
 // m, log2_slice_len, ll, sb, and after the weights B.
@@ -64,7 +65,7 @@ pub fn over_size(ns: &[u64]) -> bool
     if ns[0] > 1024 || buckets > 64 {
         return true;
     }
-    ns.len() - 13 - buckets as usize > 128
+    ns.len() - HEAD - buckets as usize > 128
 }
 
 // Takes the groups apart: the hashes, and where each bucket's keys begin and at last end. Answers how many hashes there are.
@@ -79,7 +80,7 @@ pub fn split(ns: &[u64], hashes: &mut [u64; 128], begins: &mut [u32; 65]) -> usi
     let mut h: usize = 0;
     let mut b: usize = 0;
     let mut keys = 0;
-    for &n in &ns[13..] {
+    for &n in &ns[HEAD..] {
         if keys > 0 {
             hashes[h] = n;
             h += 1;

@@ -2,17 +2,17 @@
 ghost use Rattle.std.specs.Prelude.{◌≡◌};
 ghost use Rattle.list_input.specs.Scan.{head_step, body_step, form_step, form_ends};
 
-use crate::Form;
+use crate::{FLAG, Form, HEAD};
 
 // One of the thirteen numbers at the head. The fifth, the bump flag, is 0 or 1; the last is the number of buckets to come.
 #[tactic(auto, unfolding(crate::specs::Scan::head_step, crate::specs::Scan::flag_fits))]
-fn head_step(head: u64, v: u64) -> Option<Form>
+fn head_step(head: usize, v: u64) -> Option<Form>
     ensures { result ≡ head_step head v }
 {
-    if head == 4 && v > 1 {
+    if head == FLAG && v > 1 {
         return None;
     }
-    if head < 12 {
+    if head < HEAD - 1 {
         return Some(Form::Head(head + 1));
     }
     Some(Form::Groups {

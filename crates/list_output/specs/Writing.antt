@@ -1,7 +1,7 @@
 -- A text written piece by piece: what is written and what is still to write, stored after it, is at each moment the whole text stored.
 -- Assumes nothing.
-use Rattle.std.specs.Prelude.{ℕ, suc, ◌+◌, ◌≤◌, ◌<◌, ◌≡◌, refl, List, [], ◌∷◌, ◌++◌, length, get_or, drop, set}
-use Rattle.std.proofs.Common.{arith, add-zero, add-suc, suc-add, add-one, sym, ap, ◌∙◌, length-append, drop_of_length-le, drop-cons}
+use Rattle.std.specs.Prelude.{ℕ, suc, ◌+◌, ◌≡◌, refl, List, [], ◌∷◌, ◌++◌, length, set}
+use Rattle.std.proofs.Common.{arith, add-zero, add-suc, suc-add, add-one, sym, ap, ◌∙◌, length-append}
 use Rattle.std.proofs.lemmas.List.Edits.{sets}
 use Rattle.std.proofs.Math.Seq.{length-sets}
 
@@ -39,14 +39,6 @@ module _ {out₀ : List ℕ} {at : ℕ} {all out : List ℕ} {place : ℕ} {rest
 
     pub write_end : place ≡ at + length all
     write_end = omega (arith, w.ends, ap length none)
-
--- a list written element by element
-module _ (text : List ℕ) (i : ℕ) where
-  pub rest_element : i < length text → drop i text ≡ (get_or text i 0 ∷ []) ++ drop (i + 1) text
-  rest_element h = drop-cons text i 0 h ∙ ap (λ (k : ℕ). get_or text i 0 ∷ drop k text) (sym (add-one i))
-
-  pub rest_end : length text ≤ i → drop i text ≡ []
-  rest_end h = drop_of_length-le text h
 
 -- one element stored, and a run of stores after it
 pub sets_after : (out : List ℕ) (at x : ℕ) (text same last : List ℕ) → last ≡ sets (set out at x) (at + 1) text → text ≡ same → last ≡ sets out at (x ∷ same)
