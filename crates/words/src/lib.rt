@@ -36,8 +36,11 @@ pub fn next_set(bits: &[u64], begin: usize, end: usize) -> usize
     requires { (begin ≤ end) × (end ≤ 64 * length bits.now) }
     ensures { (result ≡ next_set bits.now begin end) × (begin ≤ result) × (result ≤ end) }
 {
+    if begin == end {
+        return end;
+    }
     let mut mask = !0u64 << (begin % 64);
-    for w in begin / 64..end.div_ceil(64) {
+    for w in begin / 64..(end - 1) / 64 + 1 {
         let word = bits[w] & mask;
         if word != 0 {
             return end.min(w * 64 + word.trailing_zeros() as usize);

@@ -1,7 +1,13 @@
 -- `next_set` scans word by word (`Scan`): each return gives the answer that the words passed allow.
 use Rattle.std.proofs.Common.{sym, ◌∙◌, arith}
+use Rattle.words.specs.NextLaws.{next_none}
 use Rattle.words.proofs.Scan.{scan_first, scan_step, scan_from, scan_here, scan_none}
 use Rattle.words.proofs.next_set.Goals as goal
+
+pub returns-then-begin-end : goal.returns-then-begin-end
+returns-then-begin-end c =
+    let a = c.args in
+    (sym (next_none a.bits.now a.begin a.end c.requires.0 (λ k h l. absurd (omega arith))), omega arith, omega arith)
 
 pub loop-w-init : goal.loop-w-init
 loop-w-init c = scan_first _ _
