@@ -5,6 +5,7 @@ use Rattle.std.specs.Prelude.{◌≡◌, refl, List, [], ◌∷◌, map, ℕ, ze
 use Rattle.std.proofs.Math.Path.{sym, ap}
 use Rattle.std.proofs.Common.{ap₂, ◌∙◌, arith}
 use Rattle.std.proofs.Math.ListN.{get_or}
+use Rattle.std.proofs.lemmas.List.{get_or-map}
 use Rattle.rules.specs.Lists.{sum}
 use Rattle.rules.specs.Geometry.{layouts, first, position, ring_len}
 use Rattle.rules.specs.Order.{Input, keys_of}
@@ -18,7 +19,7 @@ use Rattle.rings.specs.Place.{key_slot}
 use Rattle.rings.specs.Level.{level_ring}
 use Rattle.ring_keys.specs.RingKey.{ring_key, ring_keys}
 use Rattle.ring_keys.specs.HashLaws.{entry_is}
-use Rattle.ring_keys.specs.LayoutLaws.{map_at, homes_of, key_slot_lem}
+use Rattle.ring_keys.specs.LayoutLaws.{homes_of, key_slot_lem}
 
 cost_front : (g : Ring) (table : List ℕ) (d : ℕ) (ks : List ℕ) (rot i : ℕ) → cost_to g table (d ∷ ks) rot (suc i) ≡ get_or table (entry_at g d rot) 0 + cost_to g table ks rot i
 unfolding cost_to
@@ -61,4 +62,4 @@ module _ (i : Input) (sound : Sound i) (b : ℕ) (inside : b < i.settings.bucket
   candidate_slot j h k kh =
       key_slot_lem i.settings sound.good b (first i.settings b) (keys_of i b) (homes_of i sound b inside) r lt j k kh
       ∙ sym (seed_position i (record { r = r; j = j }) (get_or (keys_of i b) k 0) lt h)
-      ∙ sym (map_at (position i.settings (seed_of i (record { r = r; j = j }))) (keys_of i b) k kh)
+      ∙ sym (get_or-map (position i.settings (seed_of i (record { r = r; j = j }))) (keys_of i b) k 0 0 kh)

@@ -3,7 +3,7 @@
 -- Assumes nothing.
 use Rattle.std.specs.Prelude.{◌≡◌, ◌≢◌, List, ℕ, ◌+◌, ◌-◌, ◌*◌, ◌/◌, ◌%◌, ◌^◌, ◌≤◌, ◌<◌, length, get_or, set, take}
 use Rattle.std.proofs.Math.Path.{refl}
-use Rattle.std.proofs.Common.{sym, ap, ◌∙◌, subst, ⊎_elim, arith, mul-le-mul_right, not-suc-le-zero, div-add-mod', mod-eq_of_lt, length-set, get_or-set_same, get_or-set_other}
+use Rattle.std.proofs.Common.{sym, ap, ◌∙◌, subst, ⊎_elim, arith, mul-le-mul_right, div-add-mod', mod-eq_of_lt, length-set, get_or-set_same, get_or-set_other}
 use Rattle.std.proofs.Math.Arith.{digits_lt, digits_mod}
 use Rattle.std.specs.Int.Bits.{bit_and}
 use Rattle.words.specs.ShiftLaws.{and_low}
@@ -27,9 +27,6 @@ key_packed s start r h le =
     rw e refl
 
 -- ---- one hash, all layouts
-
-pub layouts_none : (s : Settings) (h start at size : ℕ) (old : List ℕ) → LayoutsFilled s h start at size 0 old old
-layouts_none s h start at size old = record { front = refl; len = refl; key = λ q l. absurd (not-suc-le-zero l); other = λ p n. refl }
 
 row_apart : (at size q r : ℕ) → 1 ≤ size → q < r → at + q * size ≢ at + r * size
 row_apart at size q r some lt e = let z : ⊥ = omega (arith, mul-le-mul_right size lt) in z
@@ -68,9 +65,6 @@ pub record KeysTo (s : Settings) (hashes : List ℕ) (start at i : ℕ) (old now
   pub len : length now ≡ length old
   pub key : (r m : ℕ) → r < layouts s → m < i → get_or now (at + r * length hashes + m) 0 ≡ ring_key s start r (get_or hashes m 0)
   pub after : (k : ℕ) → at + layouts s * length hashes ≤ k → get_or now k 0 ≡ get_or old k 0
-
-pub keys_none : (s : Settings) (hashes : List ℕ) (start at : ℕ) (old : List ℕ) → KeysTo s hashes start at 0 old old
-keys_none s hashes start at old = record { le = omega arith; front = refl; len = refl; key = λ r m l n. absurd (not-suc-le-zero n); after = λ k l. refl }
 
 column_apart : (at size r m q i : ℕ) → m < size → i < size → m ≢ i → at + r * size + m ≢ at + i + q * size
 column_apart at size r m q i hm hi ne e =

@@ -3,7 +3,7 @@
 -- Assumes nothing.
 use Rattle.std.specs.Prelude.{◌≡◌, List, ℕ, zero, suc, ◌+◌, ◌-◌, ◌*◌, ◌/◌, ◌%◌, ◌^◌, ◌≤◌, ◌<◌, length, get_or, drop}
 use Rattle.std.proofs.Common.{sym, ap, ◌∙◌, subst, ⊎_elim, arith, mod-lt, div-lt_iff_lt-mul, div-add-mod', mul-le-mul_right, length-take, length-drop, ext_get_or}
-use Rattle.std.proofs.lemmas.List.{length-map}
+use Rattle.std.proofs.lemmas.List.{get_or-map, length-map}
 use Rattle.words.specs.Cases.{lt_or_ge}
 use Rattle.rules.specs.declared.Settings.{Settings}
 use Rattle.rules.specs.Geometry.{layouts, entries}
@@ -13,7 +13,6 @@ use Rattle.rings.specs.Parts.{part, part_at, length_part, elem_same}
 use Rattle.rings.specs.Level.{level_ring}
 use Rattle.ring_keys.specs.RingKey.{ring_key, ring_keys, Homes, KeysFilled}
 use Rattle.ring_keys.specs.HashLaws.{key_ok, priced_is}
-use Rattle.ring_keys.specs.LayoutLaws.{map_at}
 
 -- a part of a part
 pub part_part : (l : List ℕ) (at count from size : ℕ) → from + size ≤ count → part (part l at count) from size ≡ part l (at + from) size
@@ -41,7 +40,7 @@ module _ {s : Settings} {hashes : List ℕ} {start at : ℕ} {old now : List ℕ
       (n ∙ sym (length-map hashes (ring_key s start r)))
       (λ i hi.
       let h : i < length hashes = omega (arith, n) in
-      part_at now (at + r * length hashes) (length hashes) i h ∙ f.key r i lt h ∙ sym (map_at (ring_key s start r) hashes i h))
+      part_at now (at + r * length hashes) (length hashes) i h ∙ f.key r i lt h ∙ sym (get_or-map (ring_key s start r) hashes i 0 0 h))
 
   -- the same part, of the part that has all layouts' keys
   pub filled_layout : (r : ℕ) → r < layouts s → part (part now at (layouts s * length hashes)) (r * length hashes) (length hashes) ≡ ring_keys s start r hashes

@@ -3,9 +3,9 @@
 -- keys, and what is stored below `to` leaves the free words: each half goes on as if it were alone.
 -- Assumes nothing.
 use Rattle.std.specs.Prelude.{◌≡◌, refl, ◌≢◌, List, ℕ, ◌+◌, ◌-◌, ◌*◌, ◌/◌, ◌%◌, ◌^◌, ◌≤◌, ◌<◌, max, length, get_or, set, take}
-use Rattle.std.proofs.Common.{sym, ap, ◌∙◌, subst, ⊎_elim, arith, mul-le-mul_right, not-suc-le-zero, length-set, get_or-set_same, get_or-set_other}
+use Rattle.std.proofs.Common.{sym, ap, ◌∙◌, subst, ⊎_elim, arith, mul-le-mul_right, length-set, get_or-set_same, get_or-set_other}
 use Rattle.std.specs.Int.Bits.{bit_or}
-use Rattle.std.proofs.lemmas.List.{take-set-le}
+use Rattle.std.proofs.lemmas.List.{get_or-map, take-set-le}
 use Rattle.std.proofs.Math.Seq.{take-set-lt}
 use Rattle.words.specs.Bit.{bit}
 use Rattle.words.specs.Cases.{same_or_not}
@@ -23,9 +23,8 @@ use Rattle.rings.specs.BlockedLaws.{begun_blocked, ring_same, added, blocked_add
 use Rattle.rings.specs.LevelLaws.{shape_level}
 use Rattle.ring_keys.specs.RingKey.{ring_key, ring_keys, packed, KeysFilled}
 use Rattle.ring_keys.specs.HashLaws.{start_le, key_ok}
-use Rattle.ring_keys.specs.LayoutLaws.{map_at}
 use Rattle.ring_keys.specs.FilledLaws.{filled_part}
-use Rattle.ring_keys.specs.FillLaws.{layouts_none, layouts_more, key_code, layouts_are, shift_small, KeysTo, keys_none, keys_more, keys_all}
+use Rattle.ring_keys.specs.FillLaws.{layouts_more, key_code, layouts_are, shift_small, KeysTo, keys_more, keys_all}
 use Rattle.ring_keys.specs.Gathered.{RowReady, RowAdded, Below, HashReady, HashGathered, Ready, Gathered}
 
 -- ---- rows
@@ -40,14 +39,6 @@ pub row_added : {g : Ring} {l : List ℕ} {d start p r : ℕ} → KeyRow g l d s
 row_added {g} {l} {d} {start} {p} {r} a = record { word = bit_or (get_or l p 0) r; added = added (get_or l p 0) a; stored = refl }
 
 -- ---- one hash, all layouts
-
-pub hash_none : (s : Settings) (ring : Ring) (h start at size to : ℕ) (old : List ℕ) → HashGathered s ring h start at size to 0 old old
-hash_none s ring h start at size to old = record {
-  keys = λ l e f. record { filled = l; done = layouts_none s h start at size l; same = sym f };
-  len = refl;
-  rows = λ q l. absurd (not-suc-le-zero l);
-  after = λ p l. refl;
-}
 
 -- what is below the keys stays
 hash_front : {s : Settings} {ring : Ring} {h start at size to r : ℕ} {old now : List ℕ} (n : ℕ) → n ≤ at → at ≤ to → HashGathered s ring h start at size to r old now
@@ -150,15 +141,6 @@ pub record Gathering (s : Settings) (ring : Ring) (hashes : List ℕ) (start at 
   pub rows : BlockedAll ring old (λ (q : ℕ). ring_keys s start q hashes) start to 1 (layouts s) 0 old → BlockedAll ring old (λ (q : ℕ). ring_keys s start q hashes) start to 1 (layouts s) i now
   pub after : (p : ℕ) → to + layouts s ≤ p → get_or now p 0 ≡ get_or old p 0
 
-pub gathering_none : (s : Settings) (ring : Ring) (hashes : List ℕ) (start at to : ℕ) (old : List ℕ) → Gathering s ring hashes start at to 0 old old
-gathering_none s ring hashes start at to old = record {
-  keys = λ l e f. record { filled = l; done = keys_none s hashes start at l; same = sym f };
-  le = omega arith;
-  len = refl;
-  rows = λ b. b;
-  after = λ p l. refl;
-}
-
 -- what is below the keys stays
 gathering_front : {s : Settings} {ring : Ring} {hashes : List ℕ} {start at to i : ℕ} {old now : List ℕ} (n : ℕ) → n ≤ at → at ≤ to → Gathering s ring hashes start at to i old now
     → take n now ≡ take n old
@@ -187,7 +169,7 @@ gathering_more {s} {ring} {hashes} {start} {at} {to} {i} {old} {mid} {now} shape
     word q k lk x y =
         let z : k ≡ 0 = omega arith in
         let e : to + q * 1 + 0 ≡ to + q = omega arith in
-        rw (z, e) (blocked_added (rw (z, e) at x) (rw (map_at (ring_key s start q) hashes i lt) (added_same shape old (gathering_front ring.words above order a) y)))
+        rw (z, e) (blocked_added (rw (z, e) at x) (rw (get_or-map (ring_key s start q) hashes i 0 0 lt) (added_same shape old (gathering_front ring.words above order a) y)))
 
 -- ---- what the calls ask for
 

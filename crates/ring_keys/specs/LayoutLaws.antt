@@ -1,9 +1,9 @@
 -- The ring keys of one layout: what is asked of a layout's keys, and that the slots of a rotation are the positions of the hashes under its seed.
 -- Why: each holds for one hash (HashLaws), and the keys stand in the order of the hashes.
 -- Assumes nothing.
-use Rattle.std.specs.Prelude.{◌≡◌, refl, List, [], ◌∷◌, map, ℕ, zero, suc, ◌+◌, ◌-◌, ◌*◌, ◌/◌, ◌^◌, ◌≤◌, ◌<◌, length, get_or}
-use Rattle.std.proofs.Common.{sym, ap, ◌∙◌, subst, arith, not-suc-le-zero, le_of_suc-le-suc}
-use Rattle.std.proofs.lemmas.List.{length-map}
+use Rattle.std.specs.Prelude.{◌≡◌, refl, List, ℕ, ◌+◌, ◌-◌, ◌*◌, ◌/◌, ◌^◌, ◌≤◌, ◌<◌, length, get_or}
+use Rattle.std.proofs.Common.{sym, ap, ◌∙◌, subst, arith}
+use Rattle.std.proofs.lemmas.List.{get_or-map, length-map}
 use Rattle.rules.specs.declared.Settings.{Settings}
 use Rattle.rules.specs.Geometry.{layouts, first, position, stride, entries}
 use Rattle.rules.specs.Order.{Input, keys_of}
@@ -16,11 +16,6 @@ use Rattle.rings.specs.Place.{key_slot, Within, InMap}
 use Rattle.rings.specs.Level.{level_ring}
 use Rattle.ring_keys.specs.RingKey.{ring_key, ring_keys, Homes}
 use Rattle.ring_keys.specs.HashLaws.{key_ok, slot_is, slot_lt, slot_within, priced_is}
-
-pub map_at : (f : ℕ → ℕ) (xs : List ℕ) (i : ℕ) → i < length xs → get_or (map f xs) i 0 ≡ f (get_or xs i 0)
-map_at f [] i h = absurd (not-suc-le-zero h)
-map_at f (x ∷ xs) zero h = refl
-map_at f (x ∷ xs) (suc i) h = map_at f xs i (le_of_suc-le-suc h)
 
 -- the keys of a bucket are at home
 pub homes_of : (i : Input) → Sound i → (b : ℕ) → b < i.settings.buckets → Homes i.settings b (first i.settings b) (keys_of i b)
@@ -35,7 +30,7 @@ pub each : (s : Settings) (start : ℕ) (hashes : List ℕ) (P : ℕ → Type 0)
     → (i : ℕ) → i < length (ring_keys s start r hashes) → P (get_or (ring_keys s start r hashes) i 0)
 each s start hashes P r h i lt =
     let l : i < length hashes = rw (length-map hashes (ring_key s start r)) at lt in
-    subst P (sym (map_at (ring_key s start r) hashes i l)) (h i l)
+    subst P (sym (get_or-map (ring_key s start r) hashes i 0 0 l)) (h i l)
 
 -- the table entries needed are few
 pub entries_few : (s : Settings) → Good s → entries s ≤ 2 ^ 31
@@ -53,7 +48,7 @@ module _ (s : Settings) (good : Good s) (b start : ℕ) (hashes : List ℕ) (at 
     -- the slot of key i at rotation j is that of hash i under seed j·L + r
     pub key_slot_lem : (j i : ℕ) → i < length hashes → key_slot (level_ring s) (ring_keys s start r hashes) start j i ≡ position s (j * layouts s + r) (get_or hashes i 0)
     key_slot_lem j i h =
-        ap (λ (d : ℕ). slot_at (level_ring s) start d j) (map_at (ring_key s start r) hashes i h)
+        ap (λ (d : ℕ). slot_at (level_ring s) start d j) (get_or-map (ring_key s start r) hashes i 0 0 h)
         ∙ slot_is s good b start (get_or hashes i 0) (at i h) r lt j
 
     pub keys_within : (base o j : ℕ) → base ≤ first s o → first s o < base + 64 * 2 ^ stride s → o ≤ b → b < o + 256

@@ -26,14 +26,6 @@ pub slot_is : {g : Ring} {l : List ℕ} {at size start j i : ℕ} {l' : List ℕ
     → p ≡ key_slot g (part l at size) start j i
 slot_is {g} {start = start} {j = j} s m above lt e = e ∙ ap (λ (d : ℕ). slot_at g start d j) (marking_key s m above lt)
 
--- what is asked of a ring and promised of it holds of one that is the same
-pub asked_same : {g g' : Ring} {work : List ℕ} {a size start j : ℕ} {bitmap : List ℕ} → g' ≡ g → Settling g work a size start j bitmap → Settling g' work a size start j bitmap
-asked_same e p = rw e p
-
-pub marked_same : {g g' : Ring} {work bitmap keys : List ℕ} {start j size r : ℕ} {work' bitmap' : List ℕ} → g' ≡ g → MarkedBoth g' work bitmap keys start j size r work' bitmap'
-    → MarkedBoth g work bitmap keys start j size r work' bitmap'
-marked_same e m = rw e at m
-
 -- the keys are still there, and the bitmap is as long
 pub settling_after : {g : Ring} {work : List ℕ} {a size start j r : ℕ} {bitmap work' bitmap' : List ℕ} → Settling g work a size start j bitmap
     → MarkedBoth g work bitmap (part work a size) start j size r work' bitmap' → Settling g work' a size start j bitmap'
@@ -75,9 +67,6 @@ cleared_more g bitmap keys start j (suc i) h = let e : suc i - 1 ≡ i = omega a
 pub record Clearing (g : Ring) (l keys : List ℕ) (start j count i : ℕ) (now : List ℕ) : Type 0 where
   pub is : cleared_to g now keys start j i ≡ cleared_to g l keys start j count
   pub len : length now ≡ length l
-
-pub clearing_start : (g : Ring) (l keys : List ℕ) (start j count : ℕ) → Clearing g l keys start j count count l
-clearing_start g l keys start j count = record { is = refl; len = refl }
 
 pub clearing_more : {g : Ring} {l keys : List ℕ} {start j count i p : ℕ} {now after : List ℕ} → Clearing g l keys start j count i now → 0 < i → p ≡ key_slot g keys start j (i - 1) → after ≡ cleared now p
     → Clearing g l keys start j count (i - 1) after

@@ -4,6 +4,7 @@ use Rattle.std.specs.Prelude.{◌≡◌, ◌≢◌, not, List, [], ◌∷◌, ma
 use Rattle.std.proofs.Common.{sym, ap, ◌∙◌, arith, T_not}
 use Rattle.std.proofs.Math.Dec.{not_T}
 use Rattle.std.proofs.Math.ListN.{length-map}
+use Rattle.std.proofs.lemmas.List.{get_or-map}
 use Rattle.rules.specs.Lists.{elem, all_free, distinct}
 use Rattle.rules.proofs.Tests.{and_left, and_right, and_both, not_or, neq→neqb}
 use Rattle.rules.proofs.Counting.{get_d_elem}
@@ -12,7 +13,6 @@ use Rattle.rings.specs.Ring.{Shape}
 use Rattle.rings.specs.Keys.{slot_at}
 use Rattle.rings.specs.Place.{key_slot, Within, Fresh, Met}
 use Rattle.rings.specs.PlaceLaws.{fresh_apart, met_clash}
-use Rattle.ring_keys.specs.LayoutLaws.{map_at}
 use Rattle.search.specs.Slots.{slots_at, Unused, Reached}
 
 -- ---- a list by its elements
@@ -47,7 +47,7 @@ at_free marked (x ∷ xs) h = and_both (not (elem x marked)) (all_free marked xs
 pub map_distinct : (f : ℕ → ℕ) (xs : List ℕ) → T (distinct (map f xs)) → T (distinct xs)
 map_distinct f xs t =
     apart_distinct xs (λ m k a l e. distinct_apart (map f xs) t m k a (rw (length-map xs f) l)
-    (map_at f xs m (omega arith) ∙ ap f e ∙ sym (map_at f xs k l)))
+    (get_or-map f xs m 0 0 (omega arith) ∙ ap f e ∙ sym (get_or-map f xs k 0 0 l)))
 
 -- ---- the slots of a layout's keys
 
@@ -58,7 +58,7 @@ module _ (g : Ring) (start : ℕ) (keys : List ℕ) (j : ℕ) where
 
   pub slots_at_lem : (m : ℕ) → m < length keys → get_or (slots_at g start keys j) m 0 ≡ key_slot g keys start j m
   unfolding slots_at
-  slots_at_lem m l = map_at (λ (d : ℕ). slot_at g start d j) keys m l
+  slots_at_lem m l = get_or-map (λ (d : ℕ). slot_at g start d j) keys m 0 0 l
 
   pub slots_apart : T (distinct (slots_at g start keys j)) → (m k : ℕ) → m < k → k < length keys → key_slot g keys start j m ≢ key_slot g keys start j k
   slots_apart t m k a l = rw (slots_at_lem m (omega arith), slots_at_lem k l) at (distinct_apart (slots_at g start keys j) t m k a (rw length_slots l))

@@ -1,7 +1,5 @@
 -- The default shape's ring. Why: its numbers follow from those that tell the default shape, by rule G. Assumes nothing.
-use Rattle.std.specs.Prelude.{◌≡◌, ℕ}
-use Rattle.std.proofs.Math.Path.{refl}
-use Rattle.std.proofs.Common.{sym}
+use Rattle.std.specs.Prelude.{◌≡◌}
 use Rattle.geometry.specs.declared.shape.Geometry.{Geometry}
 use Rattle.geometry.specs.Shape.{Made}
 use Rattle.geometry.specs.Usual.{Usual}
@@ -22,10 +20,3 @@ usual_ring {g} m u e = rw e (record {
   n = ring_is g.settings (usual_len m u) u.ll u.sb;
   rotations = rotations_is g.settings (usual_len m u) u.ll u.sb;
 })
-
--- the ring with literals for what the compiler is to fold
-ring_by : (g : Ring) {t n rotations : ℕ} → t ≡ g.t → n ≡ g.n → rotations ≡ g.rotations → record { t = t; words = g.words; n = n; rotations = rotations } ≡ g
-ring_by g et en er = rw (et, en, er) refl
-
-pub literal_ring_is : {ring : Ring} → UsualRing ring → record { t = 4; words = ring.words; n = 64; rotations = 64 } ≡ ring
-literal_ring_is {ring} u = ring_by ring (sym u.t) (sym u.n) (sym u.rotations)

@@ -50,18 +50,17 @@ fn distinct_word(
     count: usize,
     w: usize,
     r: usize,
-    before: Best,
+    mut best: Best,
 ) -> Best
     requires key_row { KeyRow g table.now work.old a size start }
     requires free_row { FreeRow g work.old a size start f count }
     requires w_lt_count { w < count }
-    ensures { (result ≡ best_from (cost_at g table.now (part work.old a size)) (is_distinct g start (part work.old a size) (part work.old f count)) r before (64 * w) 64) × (work.new ≡ work.old) }
+    ensures { (result ≡ best_from (cost_at g table.now (part work.old a size)) (is_distinct g start (part work.old a size) (part work.old f count)) r best (64 * w) 64) × (work.new ≡ work.old) }
 {
-    let mut best = before;
     // A walk from one to one of the word counts no index.
     let mut left = work[f + w];
     while left != 0 {
-        let j = 64 * w + u64::trailing_zeros(left) as usize;
+        let j = 64 * w + left.trailing_zeros() as usize;
         best = better_distinct(g, table, work, a, size, start, r, j, best);
         left &= left - 1;
     }
@@ -79,20 +78,20 @@ fn distinct_layout(
     f: usize,
     count: usize,
     r: usize,
-    before: Best,
+    mut best: Best,
 ) -> Best
     requires key_row { KeyRow g table.now work.old a size start }
     requires free_row { FreeRow g work.old a size start f count }
-    ensures { (result ≡ best_from (cost_at g table.now (part work.old a size)) (is_distinct g start (part work.old a size) (part work.old f count)) r before 0 g.n) × (work.new ≡ work.old) }
+    ensures { (result ≡ best_from (cost_at g table.now (part work.old a size)) (is_distinct g start (part work.old a size) (part work.old f count)) r best 0 g.n) × (work.new ≡ work.old) }
 {
-    let mut best = before;
     for w in 0..count {
         best = distinct_word(g, table, work, a, size, start, f, count, w, r, best);
     }
     best
 }
 
-// The best of all layouts, where one was found: layout r has the `size` keys at work[at + r size..] and the `count` free words at work[to + r count..]. Nothing changes.
+// The best of all layouts, where one was found: layout r has the `size` keys at work[at + r size..] and the `count` free words at work[to + r count..].
+// Nothing changes.
 pub fn best_distinct(
     g: Ring,
     table: &[u32],

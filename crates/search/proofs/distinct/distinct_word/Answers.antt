@@ -12,7 +12,7 @@ use Rattle.search.proofs.distinct.distinct_word.Goals as goal
 
 pub loop-left-init : goal.loop-left-init
 loop-left-init c =
-    (refl, walk_begin c.args.g c.args.table.now c.args.work.now c.args.a c.args.size c.args.start c.args.f c.args.count c.args.w c.args.r c.args.before c.requires.w_lt_count (c.type_inv.work (c.args.f + c.args.w)).fits)
+    (refl, walk_begin c.args.g c.args.table.now c.args.work.now c.args.a c.args.size c.args.start c.args.f c.args.count c.args.w c.args.r c.args.best c.requires.w_lt_count (c.type_inv.work (c.args.f + c.args.w)).fits)
 
 pub overflow_mul-j : goal.overflow_mul-j
 overflow_mul-j c = omega (arith, c.requires.free_row.ended.short, length_part c.args.work.now c.args.f c.args.count c.requires.free_row.room)
