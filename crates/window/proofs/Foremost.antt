@@ -10,11 +10,13 @@ use borrow.Author.Tests.{eqb-true, eqb-false}
 use lib.Dec.{T, eqb}
 use lib.IntN.{ℤ}
 use lib.Signed.{lt_z}
-use Rattle.words.specs.Cases.{lt_or_ge, same_or_not}
+use Rattle.words.specs.Cases.{same_or_not}
 use Rattle.rules.specs.Lists.{elem, remove}
 use Rattle.rules.specs.Order.{Input, size_of}
 use Rattle.window.specs.Key.{bucket_key}
-use Rattle.window.specs.Large.{key_in, first_of, Told, LargeIn, Largest, Left}
+use Rattle.std.proofs.Common.{Option, Some, None}
+use Rattle.window.specs.declared.large.Best.{Best}
+use Rattle.window.specs.Large.{tell_best, key_in, first_of, Told, LargeIn, Largest, Left}
 use Rattle.window.specs.Window.{Ranged, Asc, Marks, Foremost}
 use Rattle.window.proofs.Members.{elem_here, elem_cases, append_cases, append_left, append_right, removed_in, kept_in}
 use Rattle.window.proofs.KeyLaws.{key_level, key_chain, key_after}
@@ -123,22 +125,22 @@ module _ (i : Input) (begins : List ℕ) (table : List ℤ) (hi : ℕ) (g : Rang
         subst (λ (y : ℕ). T (elem y W)) (apart o m.0 x r.0 (omega (arith, r.1)) h.from (omega (arith, h.to)) m.1.1) m.1.0
 
     -- what a look finds goes first
-    pub look_foremost : (b n : ℕ) (key : ℤ) → Largest set begins table o e b key → (b < e → n ≡ b + 1) → (e ≤ b → n ≡ 0) → Foremost i W n
-    look_foremost b n key h p q = ⊎_elim found (λ (l : e ≤ b). foremost_none i W n (q l) (λ x t s. omega (arith, (h.first x (large_in x t s)).0))) (lt_or_ge b e)
-      where
-        found : b < e → Foremost i W n
-        found l =
-            let f = h.found l in
-            let big : 64 ≤ size_of i b = omega (arith, f.0.large, size_is i begins table hi g b) in
-            foremost_is i W b n (p l) (in_large b f.0) big
-            (λ x t s.
-            subst (λ (z : ℤ). lt_z z (bucket_key i x) ≡ false) (f.1 ∙ big_is b big)
-            (subst (λ (z : ℤ). lt_z key z ≡ false) (big_is x s) (h.first x (large_in x t s)).1))
+    pub look_foremost : (best : Option Best) (n : ℕ) → Largest set begins table o e best → n ≡ tell_best best → Foremost i W n
+    look_foremost None n h q = foremost_none i W n q (λ x t s. let f = h.first x (large_in x t s) in let z = f.1.0 in cc)
+    look_foremost (Some y) n h q =
+        let f = h.found y refl in
+        let big : 64 ≤ size_of i y.bucket = omega (arith, f.0.large, size_is i begins table hi g y.bucket) in
+        foremost_is i W y.bucket n q (in_large y.bucket f.0) big
+        (λ x t s.
+        let r = h.first x (large_in x t s) in
+        let same : r.0 ≡ y = let z = r.1.0 in cc in
+        subst (λ (z : ℤ). lt_z z (bucket_key i x) ≡ false) (ap (λ (v : Best). v.key) same ∙ f.1 ∙ big_is y.bucket big)
+        (subst (λ (z : ℤ). lt_z r.0.key z ≡ false) (big_is x s) r.1.1))
 
   -- bucket b leaves: another goes first where it did, and else what went first still does
   pub left_foremost : (set : List ℕ) (o' e : ℕ) (W : List ℕ) (n b n' : ℕ) → Foremost i W n → Left set begins table n b o' e n'
       → Asc o' e (remove b W) → e ≤ o' + 256 → Marks set (remove b W) → Foremost i (remove b W) n'
   left_foremost set o' e W n b n' h t a narrow m =
-      ⊎_elim (λ (z : n ≡ b + 1). look_foremost set o' e (remove b W) a narrow m t.best n' t.key (t.largest z) (t.some z) (t.none z))
+      ⊎_elim (λ (z : n ≡ b + 1). look_foremost set o' e (remove b W) a narrow m t.best n' (t.largest z) (t.told z))
       (λ d. subst (λ (y : ℕ). Foremost i (remove b W) y) (sym (t.other d)) (leave_foremost i W n b h d))
       (same_or_not n (b + 1))

@@ -15,37 +15,38 @@ pub struct Best {
 }
 
 // The better of `best` and bucket `b` of `size` keys, where that has 64 and more and is in the set.
-fn better(set: &[u64; 16], w6: i64, w7: i64, best: Best, size: usize, b: usize) -> Best
+fn better(
+    set: &[u64; 16],
+    w6: i64,
+    w7: i64,
+    best: Option<Best>,
+    size: usize,
+    b: usize,
+) -> Option<Best>
     requires set_len { length set.now ≡ 16 }
     requires w6_bound { (nat_abs w6 ≤ 2 ^ 32) × (nat_abs w7 ≤ 2 ^ 32) }
     requires size_bound { (size ≤ 4096) × (b < 134217728) }
     ensures { result ≡ better_of set.now w6 w7 best size b }
 {
-    if size < 64 {
+    if size < 64 || !words::is_occupied(set, b % 1024) {
         return best;
     }
-    if !words::is_occupied(set, b % 1024) {
-        return best;
-    }
-    let w = rule::beyond(w6, w7, size);
-    let k = rule::key(w, b);
-    if best.key < k {
-        return Best { bucket: b, key: k };
-    }
-    best
+    let key = rule::key(rule::beyond(w6, w7, size), b);
+    let new = Best { bucket: b, key };
+    let Some(top) = best else {
+        return Some(new);
+    };
+    if top.key < key { Some(new) } else { best }
 }
 
-// Of the buckets of the set from `o` on and below `e` that have 64 keys and more, the one of the greatest key; bucket `e` where there is none.
-fn largest(set: &[u64; 16], begins: &[u32], table: &[i64; 64], o: usize, e: usize) -> Best
+// Of the buckets of the set from `o` on and below `e` that have 64 keys and more, the one of the greatest key.
+fn largest(set: &[u64; 16], begins: &[u32], table: &[i64; 64], o: usize, e: usize) -> Option<Best>
     requires { Searched set.now begins.now table.now o e }
-    ensures { Largest set.now begins.now table.now o e result.bucket result.key }
+    ensures { Largest set.now begins.now table.now o e result }
 {
     let w6 = table[6];
     let w7 = table[7];
-    let mut best = Best {
-        bucket: e,
-        key: -4611686018427387904,
-    };
+    let mut best = None;
     for b in o..e {
         let size = groups::size_of(begins, b);
         best = better(set, w6, w7, best, size, b);
@@ -96,6 +97,5 @@ pub fn left(
     if large != Some(b) {
         return large;
     }
-    let next = largest(set, begins, table, o, e).bucket;
-    if next < e { Some(next) } else { None }
+    Some(largest(set, begins, table, o, e)?.bucket)
 }

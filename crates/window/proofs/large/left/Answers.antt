@@ -5,10 +5,9 @@ use mathlib.Core.Path.{◌≡◌, refl, sym, ap, ◌∙◌, subst}
 use Prim.Native.Nat.{ℕ, ◌+◌}
 use native.Mathlib.Omega.{arith}
 use lib.Dec.{T, eqb}
-use lib.IntN.{pos}
 use Rattle.std.proofs.Common.{Option, Some, None}
 use Rattle.std.specs.Option.{option_eq}
-use Rattle.window.specs.Large.{tell}
+use Rattle.window.specs.Large.{tell, tell_best}
 use Rattle.window.proofs.large.left.Goals as goal
 
 another : (large : Option ℕ) (b : ℕ) → not (option_eq eqb large (Some b)) ≡ true → tell large ≡ b + 1 → ⊥
@@ -26,33 +25,13 @@ this_one (Some x) b e = ap (λ (y : ℕ). y + 1) (eqb-true x b (unnot (eqb x b) 
 pub returns-then-ne : goal.returns-then-ne
 returns-then-ne c =
     let d = another c.args.large c.args.b (sym c.ne.ensures ∙ c.if-ne.true) in
-    record {
-      other = λ d. refl;
-      best = 0;
-      key = pos 0;
-      largest = λ z. absurd (d z);
-      some = λ z. absurd (d z);
-      none = λ z. absurd (d z);
-    }
+    record { other = λ d. refl; best = None; largest = λ z. absurd (d z); told = λ z. absurd (d z) }
 
-pub returns-then-next-e : goal.returns-then-next-e
-returns-then-next-e c =
+pub returns : goal.returns
+returns c =
     record {
       other = λ d. absurd (d (this_one c.args.large c.args.b (sym c.ne.ensures ∙ c.if-ne.false)));
-      best = c.largest-next.result.bucket;
-      key = c.largest-next.result.key;
-      largest = λ z. c.largest-next.ensures;
-      some = λ z l. refl;
-      none = λ z l. absurd (omega (arith, c.if-next-e.true));
-    }
-
-pub returns-else-next-e : goal.returns-else-next-e
-returns-else-next-e c =
-    record {
-      other = λ d. absurd (d (this_one c.args.large c.args.b (sym c.ne.ensures ∙ c.if-ne.false)));
-      best = c.largest-next.result.bucket;
-      key = c.largest-next.result.key;
-      largest = λ z. c.largest-next.ensures;
-      some = λ z l. absurd (omega (arith, c.if-next-e.false));
-      none = λ z l. refl;
+      best = c.largest.result;
+      largest = λ z. c.largest.ensures;
+      told = λ z. sym (ap tell_best c.in_ok-largest.was);
     }
