@@ -56,16 +56,7 @@ module _ {A : Type 0} (p : A → Bool) (d : A) where
   every_list [] h = refl
   every_list (x ∷ xs) h = rw (h 0 (omega arith)) (every_list xs (λ k l. h (suc k) (omega arith)))
 
-  pub list_fails : (xs : List A) (k : ℕ) → k < length xs → p (get_or xs k d) ≡ false → every p xs ≡ false
-  list_fails [] k l e = let z : ⊥ = omega arith in absurd z
-  list_fails (x ∷ xs) zero l e = rw e refl
-  list_fails (x ∷ xs) (suc k) l e = rw (list_fails xs k (omega arith) e) (never (p x))
-
 -- a test, from the answer that it fails
-pub passes : (t : Bool) → false ≡ not t → t ≡ true
-passes true e = refl
-passes false e = e
-
 pub fails : (t : Bool) → true ≡ not t → t ≡ false
 fails true e = e
 fails false e = refl

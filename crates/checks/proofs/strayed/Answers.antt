@@ -1,8 +1,7 @@
 use Rattle.std.proofs.Common.{◌≡◌, ◌∙◌, ℕ, List, true, false, not, sym, ap, arith}
-use borrow.Author.Count.{below_more}
 use Rattle.rules.specs.declared.Settings.{Settings}
 use Rattle.checks.specs.Homes.{all_in}
-use Rattle.checks.proofs.Every.{every_each, every_fails, passes, fails}
+use Rattle.checks.proofs.Every.{every_each, every_fails, fails}
 use Rattle.checks.proofs.Stray.{home_at, strayed_by}
 use Rattle.checks.proofs.strayed.Goals as goal
 
@@ -14,9 +13,6 @@ returns-then-strays c =
     let a = c.args in
     strayed_by a.g.settings a.hashes.now a.begins.now a.buckets true
     (ap not (sym (every_fails (home_at a.g.settings a.hashes.now a.begins.now) a.buckets c.loop-b.b (omega arith) (home _ _ _ _ c.keys_of.ensures ∙ fails _ c.if-strays.ensures))))
-
-pub loop-b-preserved : goal.loop-b-preserved
-loop-b-preserved c = below_more _ c.loop-b.b c.loop-b.invariant (home _ _ _ _ c.keys_of.ensures ∙ passes _ c.if-strays.ensures)
 
 pub returns : goal.returns
 returns c =

@@ -1,11 +1,8 @@
 -- The scratch marks what has been met (`Marking`), so a bit that is set is a slot that is met again.
-use Rattle.level_check.proofs.Marking.{start, next, hit, done}
+use Rattle.level_check.proofs.Marking.{next, hit, done}
 use mathlib.Core.Path.{sym, ◌∙◌}
 use native.Mathlib.Omega.{arith}
 use Rattle.level_check.proofs.slots.mark_keys.Goals as goal
-
-pub loop-key-init : goal.loop-key-init
-loop-key-init c = start _ _ _ _
 
 pub returns-then-is_occupied : goal.returns-then-is_occupied
 returns-then-is_occupied c =
