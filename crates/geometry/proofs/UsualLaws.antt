@@ -8,13 +8,13 @@ use Rattle.rules.specs.Geometry as G
 use Rattle.rules.proofs.Tests.{and_left, and_right}
 use Rattle.geometry.specs.declared.shape.Geometry.{Geometry}
 use Rattle.geometry.specs.Ruled.{Numbers}
-use Rattle.geometry.specs.Usual.{Usual, usual_shape, usual_settings}
+use Rattle.geometry.specs.Usual.{Usual, usual_numbers, usual_shape, usual_settings}
 use Rattle.geometry.proofs.Sizes.{sized}
 
 -- ---- what the tests tell
 
 pub usual_told : (g : Geometry) → T (usual_shape g) → Usual g
-unfolding usual_shape
+unfolding usual_shape usual_numbers
 usual_told g t =
     let len = eqb g.l 1024 in
     let ll = eqb g.settings.ll 2 in

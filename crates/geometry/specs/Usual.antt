@@ -1,5 +1,5 @@
 -- PHastR's default shape: slices of 1,024 slots, four layouts, seeds of 8 bits. Assumes nothing.
-use Rattle.std.specs.Prelude.{◌≡◌, Bool, ◌&&◌, ◌==◌, nat_le}
+use Rattle.std.specs.Prelude.{◌≡◌, ℕ, Bool, ◌&&◌, ◌==◌, nat_le}
 use Rattle.rules.specs.declared.Settings.{Settings}
 use Rattle.geometry.specs.declared.shape.Geometry.{Geometry}
 
@@ -9,8 +9,11 @@ pub record Usual (g : Geometry) : Type 0 where
   pub ll : g.settings.ll ≡ 2
   pub sb : g.settings.sb ≡ 8
 
+unfoldable pub usual_numbers : (l : ℕ) → Settings → Bool
+usual_numbers l s = l == 1024 && (s.ll == 2 && s.sb == 8)
+
 unfoldable pub usual_shape : Geometry → Bool
-usual_shape g = g.l == 1024 && (g.settings.ll == 2 && g.settings.sb == 8)
+usual_shape g = usual_numbers g.l g.settings
 
 -- the default settings, with slots enough for a whole slice and no more than 5 allows
 unfoldable pub usual_settings : Settings → Bool

@@ -4,6 +4,15 @@ ghost use Rattle.rules.specs.Geometry as G;
 
 use super::shape::Geometry;
 use integers::product::{mul_hi, mul_lo};
+use rules::Settings;
+
+// o = h * B modulo 2^64, from which each layout takes its offset.
+#[tactic(auto, unfolding(rules::specs::Geometry::offset_of))]
+pub fn offset_of(settings: Settings, h: u64) -> u64
+    ensures { result ≡ G.offset_of settings h }
+{
+    mul_lo(h, settings.buckets)
+}
 
 impl Geometry {
     // The bucket of h.
@@ -21,12 +30,11 @@ impl Geometry {
         mul_hi(h, self.slices)
     }
 
-    // o = h * B modulo 2^64, from which each layout takes its offset.
-    #[tactic(auto, unfolding(rules::specs::Geometry::offset_of))]
+    // `offset_of` with its settings.
     pub fn offset_of(self, h: u64) -> u64
         ensures { result ≡ G.offset_of self.settings h }
     {
-        mul_lo(h, self.settings.buckets)
+        offset_of(self.settings, h)
     }
 
     // The first slice of bucket b.

@@ -20,11 +20,11 @@ use self::queues::Queues;
 // those of 64 keys and more the one that goes first. They lie from `oldest` on; `next` is the bucket to enter.
 #[derive(Drop)]
 pub struct Window {
-    queues: Queues,
-    set: [u64; 16],
-    large: Option<usize>,
-    oldest: usize,
-    next: usize,
+    pub queues: Queues,
+    pub set: [u64; 16],
+    pub large: Option<usize>,
+    pub oldest: usize,
+    pub next: usize,
 }
 
 // The bucket of the greatest key is taken out: `large`, or the first one of a queue.
