@@ -4,7 +4,6 @@ use Rattle.std.proofs.Common.{◌≡◌, ◌≢◌, ◌∙◌, true, false, refl
 use Rattle.std.specs.Bool.{⊤}
 use borrow.Author.Tests.{lt-ltb}
 use Rattle.rules.specs.declared.Refusal as R
-use Rattle.rules.specs.declared.Settings.{Settings}
 use Rattle.rules.specs.Answers.{work_needed, refused_by}
 use Rattle.rules.specs.Numbers.{largest}
 use Rattle.rules.specs.Good.{Usable}

@@ -1,6 +1,6 @@
 -- `listed` prints the sweep with the holes of its bitmap: the hole list is never refused here, and its front is `holes_of`.
 -- Assumes nothing.
-use Rattle.std.proofs.Common.{◌≡◌, ◌≤◌, ◌∙◌, refl, sym, ap, length, take, Ok, arith, rules}
+use Rattle.std.proofs.Common.{◌≡◌, ◌≤◌, ◌∙◌, refl, sym, ap, length, take, Ok, arith}
 use Rattle.std.proofs.lemmas.List.Edits.{sets}
 use lib.Seq.{length-take-le}
 use Rattle.list_output.specs.Text.{done_text}
