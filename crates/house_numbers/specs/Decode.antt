@@ -6,11 +6,11 @@ use Rattle.house_numbers.specs.declared.Grown.TheVariants as Grow
 use Rattle.house_numbers.specs.declared.Decoded.{Decoded}
 
 -- a number that was read, and the place after it
-abbrev pub number_of : (value next : ℕ) → Decoded
-number_of v next = record { value = v; next = next }
+abbrev pub read_number : (value next : ℕ) → Decoded
+read_number v next = record { value = v; next = next }
 
 abbrev pub found : (value next : ℕ) → Option Decoded
-found v next = Some (number_of v next)
+found v next = Some (read_number v next)
 
 -- no group yet
 abbrev pub no_groups : Part

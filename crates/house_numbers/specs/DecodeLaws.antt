@@ -7,11 +7,11 @@ use Rattle.house_numbers.specs.declared.Part.{Part}
 use Rattle.house_numbers.specs.declared.Decoded.{Decoded}
 use Rattle.house_numbers.specs.declared.Grown.{Grown}
 use Rattle.house_numbers.specs.declared.Grown.TheVariants as Grow
-use Rattle.house_numbers.specs.Decode.{number_of, found, no_groups, grown_value, grown_to, grown_by, settled, decoded_from}
+use Rattle.house_numbers.specs.Decode.{read_number, found, grown_value, grown_to, grown_by, settled, decoded_from}
 
 -- the number and the place of what was found
 module _ (v w m n : ℕ) (e : found v m ≡ found w n) where
-  same : number_of v m ≡ number_of w n
+  same : read_number v m ≡ read_number w n
   same = cc
 
   pub found_value : v ≡ w
@@ -19,10 +19,6 @@ module _ (v w m n : ℕ) (e : found v m ≡ found w n) where
 
   pub found_next : m ≡ n
   found_next = ap (λ (d : Decoded). d.next) same
-
--- a part of no groups is `no_groups`
-pub none_is : (p : Part) → p.value ≡ 0 → p.groups ≡ 0 → p ≡ no_groups
-none_is p v g = ap (λ (x : ℕ). record { value = x; groups = p.groups }) v ∙ ap (λ (x : ℕ). record { value = 0; groups = x }) g
 
 -- 128 is seven bits
 pub pow_groups : (g : ℕ) → 128 ^ g ≡ 2 ^ (7 * g)

@@ -1,23 +1,12 @@
 -- The one pass that takes the groups apart. At each number, what is stored so far and what the numbers from there on would add is all
 -- that there is to store. Assumes nothing.
-use Rattle.std.specs.Prelude.{ℕ, suc, ◌+◌, ◌-◌, ◌≤◌, ◌<◌, ◌≡◌, true, false, List, [], ◌∷◌, length, get_or, take, drop, set}
-use Rattle.std.proofs.Common.{arith, add-one, sym, ap, ◌∙◌, drop_of_length-le, drop-cons, get_or-drop, length-drop, take_all, lt-ltb, le-ltb}
+use Rattle.std.specs.Prelude.{ℕ, suc, ◌+◌, ◌-◌, ◌≤◌, ◌<◌, ◌≡◌, true, false, List, [], ◌∷◌, length, get_or, drop, set}
+use Rattle.std.proofs.Common.{arith, add-one, sym, ap, ◌∙◌, drop_of_length-le, drop-cons, lt-ltb, le-ltb}
 use Rattle.std.proofs.Math.Path.{refl}
 use Rattle.std.proofs.lemmas.List.Edits.{sets}
 use Rattle.list_input.specs.Form.{well_formed}
 use Rattle.list_input.specs.Asked.{hashes_in, begins_in, hashes_of, begins_of, over_size}
 use Rattle.list_input.specs.AskedLaws.{keys_most, begins_most, hashes_hash, begins_hash, hashes_count, begins_count}
-
--- the numbers after the head, as the code takes them
-module _ (ns : List ℕ) (i : ℕ) where
-  body_is : take (length ns - 13) (drop 13 ns) ≡ drop 13 ns
-  body_is = take_all (length ns - 13) (drop 13 ns) (omega (arith, length-drop 13 ns))
-
-  pub body_at : get_or (take (length ns - 13) (drop 13 ns)) i 0 ≡ get_or ns (13 + i) 0
-  body_at = rw body_is (get_or-drop 13 ns i 0)
-
-  pub body_long : length (take (length ns - 13) (drop 13 ns)) ≡ length ns - 13
-  body_long = rw body_is (length-drop 13 ns)
 
 -- before the number at i: h hashes and b beginnings are stored, and so many hashes of the present bucket are still to come
 pub record Splitting (ns hashes₀ begins₀ hashes begins : List ℕ) (h b keys i : ℕ) : Type 0 where

@@ -1,11 +1,17 @@
 -- `decode` reads the number at a place as `decoded_at` says. What the bytes from the present place make of the present part is at each turn
 -- what all of them make of no groups. Assumes nothing.
-use Rattle.house_numbers.specs.DecodeLaws.{none_is, from_end, from_more, from_whole, from_refused}
-use Rattle.house_numbers.specs.Decode.{decoded_from, decoded_at}
+use Rattle.house_numbers.specs.DecodeLaws.{from_end, from_more, from_whole, from_refused}
+use Rattle.house_numbers.specs.Decode.{no_groups, decoded_from, decoded_at}
+use Rattle.house_numbers.specs.declared.Part.{Part}
+use Prim.Native.Nat.{ℕ}
 use Rattle.std.specs.Prelude.{Some}
 use lib.ListN.{drop}
-use mathlib.Core.Path.{ap, refl, sym, ◌∙◌}
+use mathlib.Core.Path.{◌≡◌, ap, refl, sym, ◌∙◌}
 use Rattle.house_numbers.proofs.decode.Goals as goal
+
+-- a part of no groups is `no_groups`
+none_is : (p : Part) → p.value ≡ 0 → p.groups ≡ 0 → p ≡ no_groups
+none_is p v g = ap (λ (x : ℕ). record { value = x; groups = p.groups }) v ∙ ap (λ (x : ℕ). record { value = 0; groups = x }) g
 
 pub loop-place-init : goal.loop-place-init
 unfolding decoded_at

@@ -1,11 +1,24 @@
 -- `split` takes the groups apart as `hashes_of` and `begins_of` say: each turn keeps `Splitting`. Assumes nothing.
-use Rattle.list_input.specs.SplitLaws.{body_long, body_at, split_start, hashes_most, hash_room, split_hash, begin_room, split_count, last_room, split_hashes, split_begins, split_keys}
+use Rattle.list_input.specs.SplitLaws.{split_start, hashes_most, hash_room, split_hash, begin_room, split_count, last_room, split_hashes, split_begins, split_keys}
 use native.Mathlib.Omega.{arith}
-use Prim.Native.Nat.{◌≤◌, ◌<◌, ◌+◌}
-use lib.ListN.{length}
+use Prim.Native.Nat.{ℕ, ◌≤◌, ◌<◌, ◌+◌, ◌-◌}
+use lib.ListN.{length, get_or, take, drop, length-drop}
+use lib.Seq.{take_all, get_or-drop}
+use mathlib.Core.List.{List}
 use mathlib.Core.Path.{◌≡◌}
 use Rattle.list_input.proofs.asked.split.Goals as goal
 use Rattle.list_input.proofs.asked.split.Goals.{then-keys-gt0, else-keys-gt0}
+
+-- the numbers after the head, as the code takes them
+module _ (ns : List ℕ) (i : ℕ) where
+  body_is : take (length ns - 13) (drop 13 ns) ≡ drop 13 ns
+  body_is = take_all (length ns - 13) (drop 13 ns) (omega (arith, length-drop 13 ns))
+
+  body_at : get_or (take (length ns - 13) (drop 13 ns)) i 0 ≡ get_or ns (13 + i) 0
+  body_at = rw body_is (get_or-drop 13 ns i 0)
+
+  body_long : length (take (length ns - 13) (drop 13 ns)) ≡ length ns - 13
+  body_long = rw body_is (length-drop 13 ns)
 
 pub loop-n-init : goal.loop-n-init
 loop-n-init c = split_start _ _ _ c.requires.ns_value c.requires.ns_value_2
