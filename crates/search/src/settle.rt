@@ -74,7 +74,8 @@ fn unmark_both(
     }
 }
 
-// Marks the slots of the keys work[a..a + size] at rotation j, in the ring and in the bitmap, and tells that it did; where two keys meet nothing changes.
+// Marks the slots of the keys work[a..a + size] at rotation j, in the ring and in the bitmap, and tells, as a set's `insert` does, that it did; where two keys
+// meet nothing changes.
 pub fn settle(
     g: Ring,
     work: &mut [u64],
