@@ -3,3 +3,4 @@ pub mod ListLaws
 pub mod Standing
 pub mod Passing
 pub mod AllLaws
+pub mod Stored

@@ -25,11 +25,11 @@ use Rattle.best.specs.Wraps.{with_point, points_of, Points, Filled}
 -- ---- one key's point
 
 module _ (g : Ring) (d : ℕ) (wraps : List ℕ) where
-  with_none : place_at g d 0 ≡ 0 → with_point g d wraps ≡ wraps
+  pub with_none : place_at g d 0 ≡ 0 → with_point g d wraps ≡ wraps
   unfolding with_point
   with_none e = rw (eq-eqb (place_at g d 0) 0 e) refl
 
-  with_some : place_at g d 0 ≢ 0 → with_point g d wraps ≡ marked wraps (g.n - place_at g d 0)
+  pub with_some : place_at g d 0 ≢ 0 → with_point g d wraps ≡ marked wraps (g.n - place_at g d 0)
   unfolding with_point
   with_some n = rw (ne_eqb (place_at g d 0) 0 n) refl
 

@@ -17,9 +17,9 @@ fn layout_of(best: Best, shift: usize) -> Best
 {
     let q = best.j;
     Best {
-        cost: best.cost,
         r: q >> shift,
         j: rotation_of(q, shift),
+        ..best
     }
 }
 
@@ -42,7 +42,7 @@ pub fn best_all(
     let bits = layouts * count;
     let list = to + bits;
     list_words(work, to, bits, list);
-    let shift = u64::trailing_zeros(count as u64) as usize + 6;
+    let shift = count.trailing_zeros() as usize + 6;
     let best = best_sized(g, table, work, at, size, shift, list, total);
     layout_of(best, shift)
 }

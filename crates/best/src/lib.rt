@@ -7,10 +7,17 @@ pub mod many;
 pub mod price;
 pub mod wraps;
 
-// Rotation j of layout r and what it costs; the cost is u64::MAX where nothing was found.
+// Rotation j of layout r and what it costs.
 #[derive(Clone, Copy)]
 pub struct Best {
     pub cost: u64,
     pub r: usize,
     pub j: usize,
 }
+
+// No rotation found yet: none costs as much. An Option<Best> would make every comparison of two costs look at two things.
+pub const NOTHING: Best = Best {
+    cost: u64::MAX,
+    r: 0,
+    j: 0,
+};

@@ -5,45 +5,24 @@ ghost use Rattle.rings.specs.Parts.{part};
 ghost use Rattle.best.specs.Prices.{Prices};
 ghost use Rattle.best.specs.Kept.{Kept};
 ghost use Rattle.best.specs.Flat.{row_of, flat_cost};
-ghost use Rattle.best.specs.Listed.{some, none, Listed, Pass, Passed};
+ghost use Rattle.best.specs.Listed.{Listed, Pass, Passed};
 
-use crate::Best;
 use crate::price::{cheaper, cost};
+use crate::{Best, NOTHING};
 use rings::Ring;
 
-// 1 where x is not 0, else 0. As a number to add it costs no branch.
-fn some(x: u64) -> usize
-    ensures { (result ≡ some x) × (result ≤ 1) }
-{
-    if x == 0 {
-        return 0;
-    }
-    1
-}
-
-// 1 where x is 0, else 0.
-fn none(x: u64) -> usize
-    ensures { (result ≡ none x) × (result ≤ 1) }
-{
-    if x == 0 {
-        return 1;
-    }
-    0
-}
-
-// Lists the words of work[to..to + bits] that are not 0, each with its number behind it, from work[list] on.
+// Lists the words of work[to..to + bits] that are not 0, each with its number behind it, from work[list] on. A word that is 0 is written too, without a
+// branch, and the next one takes its place.
 pub fn list_words(work: &mut [u64], to: usize, bits: usize, list: usize)
     requires { (to + bits ≤ list) × (list + 2 * bits ≤ length work.old) }
     ensures { Listed (part work.old to bits) list bits work.new × Kept list work.old work.new }
 {
     let mut c = list;
-    let mut i = 0;
-    while i < bits {
+    for i in 0..bits {
         let f = work[to + i];
         work[c] = f;
         work[c + 1] = i as u64;
-        c += 2 * some(f);
-        i += 1;
+        c += 2 * usize::from(f != 0);
     }
 }
 
@@ -90,27 +69,22 @@ fn best_listed(
     requires { Pass g table.now work.old at size shift list total }
     ensures { Passed g table.now work.old at size shift list total result work.new }
 {
-    let mut best = Best {
-        cost: u64::MAX,
-        r: 0,
-        j: 0,
-    };
+    let mut best = NOTHING;
     let mut k = list;
-    let mut left = total;
-    while left != 0 {
+    for _ in 0..total {
         let word = work[k];
-        let q = 64 * work[k + 1] as usize + u64::trailing_zeros(word) as usize;
+        let q = 64 * work[k + 1] as usize + word.trailing_zeros() as usize;
         let c = cost_of(g, table, work, at, size, shift, q);
         best = cheaper(c, 0, q, best);
         let rest = word & (word - 1);
         work[k] = rest;
-        k += 2 * none(rest);
-        left -= 1;
+        k += 2 * usize::from(rest == 0);
     }
     best
 }
 
-// The same; a literal size has its loop over the keys unrolled.
+// The same; a literal size has its loop over the keys unrolled. A const parameter would say no more than the literal: any other size wants the function
+// without one as well.
 pub fn best_sized(
     g: Ring,
     table: &[u32],

@@ -9,9 +9,9 @@ ghost use Rattle.best.specs.Kept.{Kept};
 ghost use Rattle.best.specs.Wraps.{Points};
 ghost use Rattle.best.specs.Segments.{Rises};
 
-use crate::Best;
 use crate::price::better_of;
 use crate::wraps::fill_wraps;
+use crate::{Best, NOTHING};
 use rings::Ring;
 use words::next_set;
 
@@ -34,9 +34,10 @@ fn best_segment(
 {
     let j = next_set(free, begin, end);
     if j < end {
-        return better_of(g, table, keys, r, j, best);
+        better_of(g, table, keys, r, j, best)
+    } else {
+        best
     }
-    best
 }
 
 // The free rotations of layout r, segment by segment.
@@ -115,19 +116,20 @@ pub fn best_many(
     requires size_bound { (at + layouts * size ≤ to) × (to + layouts * count ≤ up) × (up + count ≤ length work.old) × (g.n ≤ 64 * count) }
     ensures { (result ≡ best_free g table.now (part work.old at (layouts * size)) size (part work.old to (layouts * count)) count layouts) × Kept up work.old work.new }
 {
-    let mut best = Best {
-        cost: u64::MAX,
-        r: 0,
-        j: 0,
-    };
-    let mut a = at;
-    let mut f = to;
-    let mut r = 0;
-    while r < layouts {
-        best = best_between(g, table, work, a, size, f, count, up, r, best);
-        a += size;
-        f += count;
-        r += 1;
+    let mut best = NOTHING;
+    for r in 0..layouts {
+        best = best_between(
+            g,
+            table,
+            work,
+            at + r * size,
+            size,
+            to + r * count,
+            count,
+            up,
+            r,
+            best,
+        );
     }
     best
 }

@@ -8,13 +8,6 @@ ghost use Rattle.best.specs.Prices.{Prices};
 use crate::Best;
 use rings::Ring;
 
-// A price as a summand.
-fn wide(x: u32) -> u64
-    ensures { (result ≡ x) × (result < 2 ^ 32) }
-{
-    x as u64
-}
-
 // The sum of the keys' entries of the table at rotation j.
 pub fn cost(g: Ring, table: &[u32], keys: &[u64], j: usize) -> u64
     requires shape { Shape g }
@@ -25,12 +18,9 @@ pub fn cost(g: Ring, table: &[u32], keys: &[u64], j: usize) -> u64
     let step = (j << g.t) as u64;
     let mask = ((g.n - 1) << g.t) as u64;
     let mut sum = 0;
-    let mut i = 0;
-    while i < keys.len() {
-        let d = keys[i];
+    for &d in keys {
         let e = (d / 0x1_0000_0000 + ((d + step) & mask)) as usize;
-        sum += wide(table[e]);
-        i += 1;
+        sum += u64::from(table[e]);
     }
     sum
 }
@@ -40,13 +30,10 @@ pub fn cheaper(c: u64, r: usize, j: usize, best: Best) -> Best
     ensures { result ≡ better c r j best }
 {
     if c < best.cost {
-        return Best {
-            cost: c,
-            r: r,
-            j: j,
-        };
+        Best { cost: c, r, j }
+    } else {
+        best
     }
-    best
 }
 
 // The same with the cost that the keys have there.

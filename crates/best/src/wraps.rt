@@ -1,23 +1,12 @@
 // Wrap points: the rotations at which a key of a layout is back at the start of its ring, as a bit set.
-ghost use Rattle.std.specs.Prelude.{◌+◌, ◌*◌, ◌≤◌, length, replicate};
+ghost use Rattle.std.specs.Prelude.{◌+◌, ◌*◌, ◌≤◌, length};
 ghost use Rattle.rings.specs.Ring.{Shape};
 ghost use Rattle.rings.specs.Parts.{part};
 ghost use Rattle.best.specs.Wraps.{Filled, with_point, points_of};
 
 use rings::Ring;
 use rings::keys::place_of;
-
-// Clears work[up..up + count].
-fn clear(work: &mut [u64], up: usize, count: usize)
-    requires { up + count ≤ length work.old }
-    ensures { Filled up count work.old (replicate count 0) work.new }
-{
-    let mut i = 0;
-    while i < count {
-        work[up + i] = 0;
-        i += 1;
-    }
-}
+use words::filling::fill;
 
 // Adds key d's wrap point to the set work[up..up + count].
 fn set_point(g: Ring, work: &mut [u64], d: u64, up: usize, count: usize)
@@ -26,12 +15,9 @@ fn set_point(g: Ring, work: &mut [u64], d: u64, up: usize, count: usize)
     ensures { Filled up count work.old (with_point g d (part work.old up count)) work.new }
 {
     let x = place_of(g, d, 0);
-    if x == 0 {
-        return;
+    if x != 0 {
+        words::set_bit(&mut work[up..up + count], g.n - x);
     }
-    let p = g.n - x;
-    let w = up + p / 64;
-    work[w] = work[w] | (1u64 << (p % 64));
 }
 
 // The wrap points of the keys work[at..at + size], as the set work[up..up + count].
@@ -40,11 +26,9 @@ pub fn fill_wraps(g: Ring, work: &mut [u64], at: usize, size: usize, up: usize, 
     requires size_bound { (at + size ≤ up) × (up + count ≤ length work.old) × (g.n ≤ 64 * count) }
     ensures { Filled up count work.old (points_of g (part work.old at size) count size) work.new }
 {
-    clear(work, up, count);
-    let mut i = 0;
-    while i < size {
+    fill(&mut work[up..up + count], 0);
+    for i in 0..size {
         let d = work[at + i];
         set_point(g, work, d, up, count);
-        i += 1;
     }
 }

@@ -8,9 +8,8 @@ ghost use Rattle.geometry.specs.Shape.{Made};
 
 use comparing::{Tally, held, number};
 use geometry::place::{bucket_of, first, offset_of, position, slice_of};
-use geometry::settings::number_to_7;
+use geometry::settings::check_settings;
 use geometry::shape::{Geometry, geometry_of, work_words};
-use integers::choice::smaller;
 use rules::Settings;
 
 fn settings() -> Settings {
@@ -20,11 +19,11 @@ fn settings() -> Settings {
     let sb = number();
     let buckets = number();
     Settings {
-        m: m,
-        log2_slice_len: log2_slice_len,
-        ll: ll,
-        sb: sb,
-        buckets: buckets,
+        m,
+        log2_slice_len,
+        ll,
+        sb,
+        buckets,
     }
 }
 
@@ -46,26 +45,15 @@ fn figures(g: Geometry, i: u64, t0: Tally) -> Tally {
 fn work(g: Geometry, i: u64, t: Tally) -> Tally
     requires { Made g }
 {
-    let z = smaller(number(), 4096);
+    let z = number().min(4096);
     held(t, i, b"W", work_words(g, z), number())
 }
 
 fn one_first(g: Geometry, i: u64, t: Tally) -> Tally
     requires { Made g }
 {
-    let s = g.settings;
-    let b = smaller(number(), s.buckets);
+    let b = number().min(g.settings.buckets);
     held(t, i, b"first", first(g, b), number())
-}
-
-fn firsts(g: Geometry, i: u64, t0: Tally) -> Tally
-    requires { Made g }
-{
-    let mut t = t0;
-    for _ in 0..number() {
-        t = one_first(g, i, t);
-    }
-    t
 }
 
 fn one_place(g: Geometry, i: u64, t0: Tally) -> Tally
@@ -79,12 +67,13 @@ fn one_place(g: Geometry, i: u64, t0: Tally) -> Tally
     held(t, i, b"position", position(g, h, seed), number())
 }
 
-fn places(g: Geometry, i: u64, t0: Tally) -> Tally
-    requires { Made g }
+// Compares as many times as the number read says.
+fn repeated<F: Fn(Tally) -> Tally>(t0: Tally, compare: F) -> Tally
+    requires { F.IsAlwaysCallable compare }
 {
     let mut t = t0;
     for _ in 0..number() {
-        t = one_place(g, i, t);
+        t = compare(t);
     }
     t
 }
@@ -92,18 +81,18 @@ fn places(g: Geometry, i: u64, t0: Tally) -> Tally
 fn numbers(g: Geometry, i: u64, t: Tally) -> Tally
     requires { Made g }
 {
-    places(g, i, firsts(g, i, work(g, i, figures(g, i, t))))
+    let t = work(g, i, figures(g, i, t));
+    let t = repeated(t, |t| one_first(g, i, t));
+    repeated(t, |t| one_place(g, i, t))
 }
 
 // One case. The Rust is asked only where the checks pass, so a number that refuses is a difference.
 fn case(i: u64, t0: Tally) -> Tally {
     let s = settings();
-    let n = number_to_7(s);
-    let t = held(t0, i, b"refused", n, 0);
-    if n != 0 {
-        return t;
+    match check_settings(s) {
+        Ok(()) => numbers(geometry_of(s), i, held(t0, i, b"refused", 0, 0)),
+        Err(why) => held(t0, i, b"refused", why.number(), 0),
     }
-    numbers(geometry_of(s), i, t)
 }
 
 fn cases(count: u64) -> Tally {

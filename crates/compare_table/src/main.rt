@@ -4,7 +4,6 @@
 
 use comparing::{Tally, held, number};
 use log_table::making::make_logs;
-use rules::Checked;
 
 // The entries of the longest table.
 const MOST: usize = 131_072;
@@ -12,10 +11,10 @@ const MOST: usize = 131_072;
 // Compares an entry with the Rust's, and where the house table has it, its entry too.
 fn entry(t: Tally, d: usize, house: &[u32], made: u32, rust: u64) -> Tally {
     let made_held = held(t, d as u64, b"entry", made as u64, rust);
-    if house.len() <= d {
-        return made_held;
+    match house.get(d) {
+        Some(entry) => held(made_held, d as u64, b"house entry", *entry as u64, rust),
+        None => made_held,
     }
-    held(made_held, d as u64, b"house entry", house[d] as u64, rust)
 }
 
 // Compares entry after entry until the Rust's end: a number that is not there is 0, and so is no entry from 2 on.
@@ -24,12 +23,12 @@ fn entries(house: &[u32], table: &[u32]) -> Tally {
         compared: 0,
         differ: 0,
     };
-    for d in 0..table.len() {
+    for (d, made) in table.iter().enumerate() {
         let rust = number();
         if 1 < d && rust == 0 {
             return t;
         }
-        t = entry(t, d, house, table[d], rust);
+        t = entry(t, d, house, *made, rust);
     }
     t
 }
@@ -38,10 +37,10 @@ fn main() {
     let house = log_table::house();
     let mut table = [0u32; MOST];
     match make_logs(&mut table) {
-        Checked::Fine => comparing::close(entries(&house, &table)),
-        Checked::Refused(number) => {
+        Ok(()) => comparing::close(entries(&house, &table)),
+        Err(why) => {
             io::write_all(1, b"refused ");
-            io::print_decimal(1, number);
+            io::print_decimal(1, why.number());
             io::write_all(1, b"\n");
         }
     }

@@ -4,25 +4,19 @@ ghost use Rattle.level_check.specs.Check.{level_of, said_matched, check_answer, 
 ghost use Rattle.exports.specs.Level.{settings_of};
 ghost use Rattle.exports.specs.Told.{number_told, bucket_told};
 
-use level_check::{Matched, check_level};
-use rules::{Named, Settings};
+use crate::level::settings_of;
+use crate::telling::tell_stop;
+use level_check::check_level;
+use rules::Stop;
 
 // Tells how a check ended: its number, and the bucket that it names.
-fn tell(matched: Matched, bucket: &mut u64) -> u64
-    ensures answer { result ≡ number_told (said_matched matched) }
-    ensures named { bucket.new ≡ bucket_told (said_matched matched) bucket.old }
+fn tell(done: Result<(), Stop>, bucket: &mut u64) -> u64
+    ensures answer { result ≡ number_told (said_matched done) }
+    ensures named { bucket.new ≡ bucket_told (said_matched done) bucket.old }
 {
-    match matched {
-        Matched::Accepted => 0,
-        Matched::Refused(number, named) => {
-            match named {
-                Named::Bucket(b) => {
-                    *bucket = b;
-                }
-                Named::NoBucket => {}
-            }
-            number
-        }
+    match done {
+        Ok(()) => 0,
+        Err(stop) => tell_stop(stop, bucket),
     }
 }
 
@@ -48,13 +42,9 @@ pub fn phastr_check_level(
     ensures zeroed { scratch.new ≡ check_scratch (level_of (settings_of m log2_slice_len ll sb buckets) hashes.now begins.now)
         seeds.now bitmap.now scratch.old }
 {
-    let s = Settings {
-        m: m,
-        log2_slice_len: log2_slice_len,
-        ll: ll,
-        sb: sb,
-        buckets: buckets,
-    };
-    let matched = check_level(s, hashes, begins, seeds, bitmap, scratch);
-    tell(matched, bucket)
+    let s = settings_of(m, log2_slice_len, ll, sb, buckets);
+    tell(
+        check_level(s, hashes, begins, seeds, bitmap, scratch),
+        bucket,
+    )
 }

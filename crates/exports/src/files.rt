@@ -7,8 +7,9 @@ ghost use Rattle.level_file.specs.Writing.{write_answer, bytes_after};
 ghost use Rattle.exports.specs.Level.{settings_of};
 ghost use Rattle.exports.specs.Told.{number_told, values_told, value_told};
 
-use level_file::{FileRead, FileWritten, read_file, write_file};
-use rules::Settings;
+use crate::level::settings_of;
+use crate::telling::tell;
+use level_file::{Level, read_file, write_file};
 
 // Writes a level file. 0: written has its length; else all bytes of out and written are 0.
 pub fn phastr_level_write(
@@ -26,23 +27,10 @@ pub fn phastr_level_write(
     ensures file { out.new ≡ bytes_after (level_of (settings_of m log2_slice_len ll sb buckets) seeds.now holes.now) out.old }
     ensures long { written.new ≡ value_told (write_answer (level_of (settings_of m log2_slice_len ll sb buckets) seeds.now holes.now) (length out.old)) 0 }
 {
-    let s = Settings {
-        m: m,
-        log2_slice_len: log2_slice_len,
-        ll: ll,
-        sb: sb,
-        buckets: buckets,
-    };
-    match write_file(s, seeds, holes, out) {
-        FileWritten::Length(n) => {
-            *written = n;
-            0
-        }
-        FileWritten::Refused(number) => {
-            *written = 0;
-            number
-        }
-    }
+    *written = 0;
+    let s = settings_of(m, log2_slice_len, ll, sb, buckets);
+    let done = write_file(s, seeds, holes, out);
+    tell(done, written)
 }
 
 // Reads a level file. 0: level has m, log2_slice_len, ll, sb, B and the hole count; else it, all seeds and all holes are 0.
@@ -58,16 +46,18 @@ pub fn phastr_level_read(
     ensures told { level.new ≡ values_told (read_answer (read_file bytes.now (length seeds.old) (length holes.old))) (replicate 6 0) }
 {
     match read_file(bytes, seeds, holes) {
-        FileRead::Level {
-            settings: s,
-            hole_count,
-        } => {
+        Ok(
+            Level {
+                settings: s,
+                hole_count,
+            },
+        ) => {
             *level = [s.m, s.log2_slice_len, s.ll, s.sb, s.buckets, hole_count];
             0
         }
-        FileRead::Refused(number) => {
+        Err(why) => {
             *level = [0; 6];
-            number
+            why.number()
         }
     }
 }

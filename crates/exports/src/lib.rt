@@ -6,5 +6,7 @@
 pub mod asking;
 pub mod checking;
 pub mod files;
+mod level;
 pub mod sizing;
 pub mod sweeping;
+mod telling;

@@ -6,30 +6,24 @@ ghost use Rattle.rules.specs.Answers.{said_outcome, sweep_answer, sweep_seeds, s
 ghost use Rattle.exports.specs.Level.{settings_of, how_of};
 ghost use Rattle.exports.specs.Told.{number_told, values_told, value_told, bucket_told};
 
+use crate::level::settings_of;
+use crate::telling::{tell, tell_stop};
 use holes::holes;
-use rules::{How, Listed, Named, Outcome, Settings};
+use rules::{Counts, How, Stop};
 use sweep::sweep;
 
 // Tells how a sweep ended: its number, and the counts or the bucket that it names.
-fn tell(outcome: Outcome, counts: &mut [u64; 3], bucket: &mut u64) -> u64
+fn tell_outcome(outcome: Result<Counts, Stop>, counts: &mut [u64; 3], bucket: &mut u64) -> u64
     ensures answer { result ≡ number_told (said_outcome outcome) }
     ensures counted { counts.new ≡ values_told (said_outcome outcome) counts.old }
     ensures named { bucket.new ≡ bucket_told (said_outcome outcome) bucket.old }
 {
     match outcome {
-        Outcome::Done(c) => {
+        Ok(c) => {
             *counts = [c.placed, c.bumped, c.zero];
             0
         }
-        Outcome::Refused(number, named) => {
-            match named {
-                Named::Bucket(b) => {
-                    *bucket = b;
-                }
-                Named::NoBucket => {}
-            }
-            number
-        }
+        Err(stop) => tell_stop(stop, bucket),
     }
 }
 
@@ -71,20 +65,19 @@ pub fn phastr_sweep(
         (input_of (settings_of m log2_slice_len ll sb buckets) weights.now hashes.now begins.now table.now)
         (lent_of seeds.old bitmap.old work.old)) bucket.old }
 {
-    let s = Settings {
-        m: m,
-        log2_slice_len: log2_slice_len,
-        ll: ll,
-        sb: sb,
-        buckets: buckets,
-    };
-    let how = How {
-        bump: bump,
-        chunks: chunks,
-    };
-    let record = sweep(s, *weights, how, hashes, begins, table, seeds, bitmap, work);
-    let outcome = record.outcome;
-    tell(outcome, counts, bucket)
+    let s = settings_of(m, log2_slice_len, ll, sb, buckets);
+    let record = sweep(
+        s,
+        *weights,
+        How { bump, chunks },
+        hashes,
+        begins,
+        table,
+        seeds,
+        bitmap,
+        work,
+    );
+    tell_outcome(record.outcome, counts, bucket)
 }
 
 // Lists the unmarked slots below m. 0: count has how many there are.
@@ -93,11 +86,5 @@ pub fn phastr_holes(m: u64, bitmap: &[u64], out: &mut [u32], count: &mut u64) ->
     ensures buffer { out.new ≡ holes_out m bitmap.now out.old }
     ensures counted { count.new ≡ value_told (holes_answer m bitmap.now out.old) count.old }
 {
-    match holes(m, bitmap, out) {
-        Listed::Holes(n) => {
-            *count = n;
-            0
-        }
-        Listed::Refused(number) => number,
-    }
+    tell(holes(m, bitmap, out), count)
 }

@@ -1,7 +1,7 @@
 // Runs the checks of settings and the bucket count at each of their limits and just beside.
 #![tactic(auto)]
 
-use rules::{Checked, Counted, Settings};
+use rules::Settings;
 
 fn number(n: u64) {
     io::print_decimal(1, n);
@@ -16,19 +16,19 @@ fn settings(m: u64, log2_slice_len: u64, ll: u64, sb: u64, buckets: u64) {
     number(sb);
     number(buckets);
     let s = Settings {
-        m: m,
-        log2_slice_len: log2_slice_len,
-        ll: ll,
-        sb: sb,
-        buckets: buckets,
+        m,
+        log2_slice_len,
+        ll,
+        sb,
+        buckets,
     };
     match geometry::settings::check_settings(s) {
-        Checked::Fine => {
+        Ok(()) => {
             io::write_all(1, b"fine\n");
         }
-        Checked::Refused(n) => {
+        Err(why) => {
             io::write_all(1, b"refused ");
-            io::print_decimal(1, n);
+            io::print_decimal(1, why.number());
             io::write_all(1, b"\n");
         }
     }
@@ -39,13 +39,13 @@ fn count(log2_slice_len: u64, k: u64, size: f64) {
     number(log2_slice_len);
     number(k);
     match geometry::count::bucket_count(log2_slice_len, k, size) {
-        Counted::Buckets(n) => {
+        Ok(n) => {
             io::write_all(1, b"buckets ");
             io::print_decimal(1, n);
         }
-        Counted::Refused(n) => {
+        Err(why) => {
             io::write_all(1, b"refused ");
-            io::print_decimal(1, n);
+            io::print_decimal(1, why.number());
         }
     }
     io::write_all(1, b"\n");

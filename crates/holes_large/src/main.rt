@@ -2,8 +2,6 @@
 // stack, more than a program is given unasked.
 #![tactic(auto)]
 
-use rules::Listed;
-
 fn slot(x: u32) {
     io::write_all(1, b" ");
     io::print_decimal(1, x as u64);
@@ -12,13 +10,13 @@ fn slot(x: u32) {
 // Lists the holes and says how it went.
 fn list(bitmap: &[u64; 2097152], out: &mut [u32; 4]) {
     match holes::holes(134_217_728, bitmap, out) {
-        Listed::Holes(n) => {
+        Ok(n) => {
             io::write_all(1, b"holes ");
             io::print_decimal(1, n);
         }
-        Listed::Refused(n) => {
+        Err(why) => {
             io::write_all(1, b"refused ");
-            io::print_decimal(1, n);
+            io::print_decimal(1, why.number());
         }
     }
 }
@@ -30,10 +28,9 @@ fn largest(last: u64) {
     bitmap[2097151] = last;
     let mut out = [999u32; 4];
     list(&bitmap, &mut out);
-    slot(out[0]);
-    slot(out[1]);
-    slot(out[2]);
-    slot(out[3]);
+    for x in out {
+        slot(x);
+    }
     io::write_all(1, b"\n");
 }
 

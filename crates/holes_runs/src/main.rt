@@ -4,16 +4,14 @@
 
 ghost use Rattle.std.specs.Prelude.{◌≤◌};
 
-use rules::Listed;
-
 fn put(x: u64) {
     io::write_all(1, b" ");
     io::print_decimal(1, x);
 }
 
 fn put_all(xs: &[u32]) {
-    for i in 0..xs.len() {
-        put(xs[i] as u64);
+    for x in xs {
+        put(*x as u64);
     }
 }
 
@@ -23,13 +21,13 @@ fn run(m: u64, bitmap: &[u64], out: &mut [u32]) {
     put(bitmap.len() as u64);
     put(out.len() as u64);
     match holes::holes(m, bitmap, out) {
-        Listed::Holes(n) => {
+        Ok(n) => {
             io::write_all(1, b" holes");
             put(n);
         }
-        Listed::Refused(n) => {
+        Err(why) => {
             io::write_all(1, b" refused");
-            put(n);
+            put(why.number());
         }
     }
     io::write_all(1, b" buffer");

@@ -1,4 +1,5 @@
 -- Numbers that stand one after the other: put together and taken apart, and that the bytes of numbers are these numbers. Assumes nothing.
+use Rattle.std.specs.Prelude.{Option, Some, None}
 use Prim.Native.Nat.{ℕ, ◌+◌, ◌^◌, ◌≤◌, ◌<◌}
 use native.Mathlib.Omega.{arith}
 use mathlib.Core.Path.{◌≡◌, refl, sym, ap, subst, ◌∙◌}
@@ -9,13 +10,10 @@ use lib.ListN.{length, length-append}
 use borrow.Author.Tests.{leb-false}
 use Rattle.rules.proofs.Tests.{is_false, and_left, and_right}
 use Rattle.house_numbers.specs.declared.Decoded.{Decoded}
-use Rattle.house_numbers.specs.declared.Decoded.TheVariants as Dec
 use Rattle.house_numbers.specs.Encode.{encoded}
-use Rattle.house_numbers.specs.Decode.{decoded_at}
+use Rattle.house_numbers.specs.Decode.{found, decoded_at}
 use Rattle.house_numbers.specs.RoundTrip.{decode_encoded}
 use Rattle.house_numbers.proofs.Inside.{number_inside}
-use Rattle.level_file.specs.declared.Taken.{Taken}
-use Rattle.level_file.specs.declared.Taken.TheVariants as Take
 use Rattle.level_file.specs.Taking.{taken_of, taken_at}
 use Rattle.level_file.specs.Format.{bytes_of, not_below, all_but, Front, Decodes}
 use Rattle.level_file.specs.Reading.{read_of, number_at}
@@ -23,24 +21,22 @@ use Rattle.level_file.specs.Reading.Read.{Got}
 
 -- ---- one number, as decoded and as read
 
-of_taken : (d : Decoded) (v next : ℕ) → taken_of d ≡ Take.Number v next → d ≡ Dec.Number v next
-unfolding taken_of
-of_taken (Dec.Number w n) v next e = cc
-of_taken Dec.Refused v next e = absurd (let z : ◌≡◌ {A = ℕ} 0 1 = cc in omega arith)
-
-of_read : (t : Taken) (v next : ℕ) → read_of t ≡ Got v next → t ≡ Take.Number v next
-unfolding read_of
-of_read (Take.Number w n) v next e = cc
-of_read (Take.Refused n) v next e = absurd (let z : ◌≡◌ {A = ℕ} 0 1 = cc in omega arith)
+of_read : (d : Option Decoded) (v next : ℕ) → read_of (taken_of d) ≡ Got v next → d ≡ found v next
+unfolding read_of taken_of
+of_read (Some d) v next e = same d.value v d.next next e
+  where
+    same : (a v b next : ℕ) → Got a b ≡ Got v next → found a b ≡ found v next
+    same a v b next e = let i : a ≡ v = cc in let j : b ≡ next = cc in cc
+of_read None v next e = absurd (let z : ◌≡◌ {A = ℕ} 0 1 = cc in omega arith)
 
 module _ (bytes : List ℕ) (at v next : ℕ) where
-  pub decoded_read : decoded_at bytes at ≡ Dec.Number v next → number_at bytes at ≡ Got v next
+  pub decoded_read : decoded_at bytes at ≡ found v next → number_at bytes at ≡ Got v next
   unfolding number_at read_of taken_at taken_of
   decoded_read e = rw e refl
 
-  pub read_decoded : number_at bytes at ≡ Got v next → decoded_at bytes at ≡ Dec.Number v next
+  pub read_decoded : number_at bytes at ≡ Got v next → decoded_at bytes at ≡ found v next
   unfolding number_at taken_at
-  read_decoded e = of_taken (decoded_at bytes at) v next (of_read (taken_at bytes at) v next e)
+  read_decoded e = of_read (decoded_at bytes at) v next e
 
 module _ (bytes : List ℕ) where
   pub decodes_none : (at : ℕ) → Decodes bytes [] at at
@@ -118,7 +114,7 @@ bytes_decode (v ∷ vs) s before rest =
     let end : length (before ++ encoded v) + length (bytes_of vs) ≡ length before + length (encoded v ++ bytes_of vs) = omega (arith, mid, length-append (encoded v) (bytes_of vs)) in
     record {
       next = length before + length (encoded v);
-      number = subst (λ (xs : List ℕ). decoded_at xs (length before) ≡ Dec.Number v (length before + length (encoded v))) split (decode_encoded v (small_first v vs s) before (bytes_of vs ++ rest));
+      number = subst (λ (xs : List ℕ). decoded_at xs (length before) ≡ found v (length before + length (encoded v))) split (decode_encoded v (small_first v vs s) before (bytes_of vs ++ rest));
       rest =
           subst (λ (k : ℕ). Decodes all vs k (length before + length (encoded v ++ bytes_of vs))) mid
           (subst (λ (k : ℕ). Decodes all vs (length (before ++ encoded v)) k) end

@@ -1,18 +1,32 @@
 -- A list that is read into a buffer, value by value: what the whole gives, the values so far and what is left to read. Assumes nothing.
+use Rattle.std.specs.Prelude.{Ok, Err}
 use Prim.Native.Nat.{ℕ, suc, ◌+◌, ◌-◌, ◌≤◌, ◌<◌}
 use native.Mathlib.Omega.{arith}
 use native.Mathlib.Numerals.{add-one}
-use mathlib.Core.Path.{◌≡◌, refl, sym, ap, ◌∙◌}
+use mathlib.Core.Path.{◌≡◌, refl, sym, ap, subst, ◌∙◌}
 use mathlib.Core.List.{List, [], ◌∷◌, ◌++◌, append_assoc, append-nil}
-use lib.ListN.{length, take, drop, set, length-set, take-append-drop}
-use lib.Seq.{take-suc-set, drop-set-lt, drop-drop, length-take-le}
+use lib.ListN.{length, take, set}
+use lib.Seq.{take-suc-set, take_all}
 use borrow.Author.Tests.{lt-ltb, le-ltb, le-leb, lt-leb}
-use Rattle.level_file.specs.declared.Taken.{Taken}
-use Rattle.level_file.specs.declared.Taken.TheVariants as Take
-use Rattle.level_file.specs.Taking.{taken_at}
-use Rattle.level_file.specs.Format.{not_below, filled}
-use Rattle.level_file.specs.Reading.{gap_bad, Read, then, refused_if, read_of, number_at, numbers_at, holes_at, told, Leaves}
+use Rattle.rules.specs.declared.Refusal.{Refusal}
+use Rattle.rules.specs.Answers.{number_of}
+use Rattle.level_file.specs.Taking.{taken_as, taken_at}
+use Rattle.level_file.specs.Format.{not_below}
+use Rattle.level_file.specs.Reading.{gap_bad, Read, then, refused_if, read_of, number_at, numbers_at, holes_at}
 use Rattle.level_file.specs.Reading.Read.{Got, No}
+
+-- ---- one number, of a reader whose bytes are those of the file
+
+module _ (bytes here : List ℕ) (at next : ℕ) (same : here ≡ bytes) where
+  pub number_got : (v : ℕ) → taken_as (Ok v) next ≡ taken_at here at → number_at bytes at ≡ Got v next
+  unfolding number_at read_of taken_as
+  number_got v e = subst (λ (b : List ℕ). number_at b at ≡ Got v next) same (sym (ap read_of e))
+
+  pub number_no : (why : Refusal) → taken_as (Err why) next ≡ taken_at here at → number_at bytes at ≡ No (number_of why)
+  unfolding number_at read_of taken_as
+  number_no why e = subst (λ (b : List ℕ). number_at b at ≡ No (number_of why)) same (sym (ap read_of e))
+
+-- ---- the values so far
 
 -- values in front of what is read
 unfoldable pub prefixed : List ℕ → Read (List ℕ) → Read (List ℕ)
@@ -28,17 +42,15 @@ unfolding prefixed then
 prefixed_twice xs ys (Got vs end) = ap (λ (zs : List ℕ). Got zs end) (sym (append_assoc xs ys vs))
 prefixed_twice xs ys (No n) = refl
 
--- i values are read, the whole gives what they and the rest give, and beyond them the buffer is as it was
-pub record Filling (whole left : Read (List ℕ)) (entry buffer : List ℕ) (i : ℕ) : Type 0 where
+-- i values are read: the whole gives what they and the rest give
+pub record Filling (whole left : Read (List ℕ)) (buffer : List ℕ) (i : ℕ) : Type 0 where
   pub so_far : whole ≡ prefixed (take i buffer) left
-  pub beyond : drop i buffer ≡ drop i entry
-  pub same : length buffer ≡ length entry
 
-pub filling_start : (whole left : Read (List ℕ)) (entry : List ℕ) → whole ≡ left → Filling whole left entry entry 0
-filling_start whole left entry e = record { so_far = e ∙ sym (prefixed_none left); beyond = refl; same = refl }
+pub filling_start : (whole left : Read (List ℕ)) (buffer : List ℕ) → whole ≡ left → Filling whole left buffer 0
+filling_start whole left buffer e = record { so_far = e ∙ sym (prefixed_none left) }
 
-module _ (whole left : Read (List ℕ)) (entry buffer : List ℕ) (i : ℕ) (f : Filling whole left entry buffer i) where
-  pub filling_step : (v : ℕ) (more : Read (List ℕ)) → i < length buffer → left ≡ prefixed (v ∷ []) more → Filling whole more entry (set buffer i v) (i + 1)
+module _ (whole left : Read (List ℕ)) (buffer : List ℕ) (i : ℕ) (f : Filling whole left buffer i) where
+  pub filling_step : (v : ℕ) (more : Read (List ℕ)) → i < length buffer → left ≡ prefixed (v ∷ []) more → Filling whole more (set buffer i v) (i + 1)
   filling_step v more inside e =
       record {
         so_far =
@@ -47,53 +59,16 @@ module _ (whole left : Read (List ℕ)) (entry buffer : List ℕ) (i : ℕ) (f :
             ∙ prefixed_twice (take i buffer) (v ∷ []) more
             ∙ ap (λ (xs : List ℕ). prefixed xs more) (sym (take-suc-set buffer i v inside))
             ∙ ap (λ (k : ℕ). prefixed (take k (set buffer i v)) more) (sym (add-one i));
-        beyond = drop-set-lt (i + 1) buffer i v (omega arith) ∙ sym (drop-drop 1 i buffer) ∙ ap (drop 1) f.beyond ∙ drop-drop 1 i entry;
-        same = length-set buffer i v ∙ f.same;
       }
 
-  module _ (n : ℕ) (e : left ≡ No n) where
-    whole_refused : whole ≡ No n
-    unfolding prefixed then
-    whole_refused = rw e at f.so_far
+  pub filling_refused : (n : ℕ) → left ≡ No n → No n ≡ whole
+  unfolding prefixed then
+  filling_refused n e = sym (rw e at f.so_far)
 
-    pub filling_refused : Take.Refused n ≡ told whole
-    unfolding told
-    filling_refused = rw whole_refused refl
-
-    pub filling_void : Leaves whole entry buffer
-    unfolding Leaves
-    filling_void vs end g = absurd (let z : ◌≡◌ {A = ℕ} 0 1 = clash n vs end (sym whole_refused ∙ g) in omega arith) where
-      clash : (n : ℕ) (vs : List ℕ) (end : ℕ) → No n ≡ Got vs end → ◌≡◌ {A = ℕ} 0 1
-      clash n vs end h = cc
-
-  module _ (place : ℕ) (inside : i ≤ length buffer) (e : left ≡ Got [] place) where
-    whole_got : whole ≡ Got (take i buffer) place
-    unfolding prefixed then
-    whole_got = (rw e at f.so_far) ∙ ap (λ (xs : List ℕ). Got xs place) (append-nil (take i buffer))
-
-    pub filling_done : Take.Number i place ≡ told whole
-    unfolding told
-    filling_done = rw whole_got (ap (λ (k : ℕ). Take.Number k place) (sym (length-take-le i buffer inside)))
-
-    pub filling_leaves : Leaves whole entry buffer
-    unfolding Leaves filled
-    filling_leaves vs end g =
-        let same-values : take i buffer ≡ vs = value (take i buffer) vs place end (sym whole_got ∙ g) in
-        let long : length vs ≡ i = ap length (sym same-values) ∙ length-take-le i buffer inside in
-        sym (take-append-drop i buffer) ∙ ap (λ (xs : List ℕ). xs ++ drop i buffer) same-values ∙ ap (λ (xs : List ℕ). vs ++ xs) (f.beyond ∙ ap (λ (k : ℕ). drop k entry) (sym long)) where
-          value : (x y : List ℕ) (m n : ℕ) → Got x m ≡ Got y n → x ≡ y
-          value x y m n h = cc
-
--- ---- one number
-
-module _ (bytes : List ℕ) (at : ℕ) (t : Taken) (e : t ≡ taken_at bytes at) where
-  pub number_got : (v next : ℕ) → t ≡ Take.Number v next → number_at bytes at ≡ Got v next
-  unfolding number_at read_of
-  number_got v next i = rw (sym e ∙ i) refl
-
-  pub number_no : (n : ℕ) → t ≡ Take.Refused n → number_at bytes at ≡ No n
-  unfolding number_at read_of
-  number_no n i = rw (sym e ∙ i) refl
+  pub filling_done : (place : ℕ) → length buffer ≤ i → left ≡ Got [] place → Got buffer place ≡ whole
+  unfolding prefixed then
+  filling_done place past e =
+      sym ((rw e at f.so_far) ∙ ap (λ (xs : List ℕ). Got xs place) (append-nil (take i buffer) ∙ take_all i buffer past))
 
 -- ---- numbers below a limit
 

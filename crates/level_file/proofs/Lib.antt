@@ -1,6 +1,4 @@
 -- What several proofs cite, and the two theorems on files.
-mod TakingLaws
-mod ClearLaws
 pub mod DecodesLaws
 pub mod Accepts
 pub mod Accepted

@@ -1,4 +1,5 @@
 -- The length of a part and whether it may be written, number by number: what is told of the whole is told of what is left. Assumes nothing.
+use Rattle.std.specs.Prelude.{Option, Some, None}
 use Prim.Native.Nat.{ℕ, ◌+◌, ◌*◌, ◌≤◌, ◌<◌}
 use native.Mathlib.Omega.{arith}
 use mathlib.Core.Path.{◌≡◌, refl, sym, ap, ◌∙◌}
@@ -9,8 +10,6 @@ use borrow.Author.Tests.{lt-ltb, le-ltb, le-leb, lt-leb}
 use Rattle.rules.specs.declared.Settings.{Settings}
 use Rattle.house_numbers.specs.Encode.{encoded}
 use Rattle.house_numbers.specs.EncodeLaws.{length_ten}
-use Rattle.level_file.specs.declared.writing.Measured.{Measured}
-use Rattle.level_file.specs.declared.writing.Measured.TheVariants as Size
 use Rattle.level_file.specs.Format.{settings_numbers, bytes_of, not_below, all_but, holes_fine}
 use Rattle.level_file.specs.Writing.{measured}
 use Rattle.level_file.proofs.PutLaws.{drop_as, drop_all}
@@ -38,7 +37,7 @@ pub measuring_start : (fine : Bool) (whole : List ℕ) → Measuring fine whole 
 measuring_start fine whole = record { same_fine = refl; so_far = omega arith }
 
 module _ (fine : Bool) (whole : List ℕ) (fineLeft : Bool) (left : List ℕ) (total : ℕ) (m : Measuring fine whole fineLeft left total) where
-  pub measuring_bad : fineLeft ≡ false → Size.Bad ≡ measured fine whole
+  pub measuring_bad : fineLeft ≡ false → None ≡ measured fine whole
   unfolding measured
   measuring_bad e = rw (m.same_fine ∙ e) refl
 
@@ -46,35 +45,35 @@ module _ (fine : Bool) (whole : List ℕ) (fineLeft : Bool) (left : List ℕ) (t
   measuring_step v fineMore more next f e n =
       record { same_fine = m.same_fine ∙ f; so_far = omega (arith, m.so_far, ap (λ (xs : List ℕ). length (bytes_of xs)) e, bytes_cons v more, n) }
 
-  pub measuring_done : fineLeft ≡ true → left ≡ [] → Size.Bytes total ≡ measured fine whole
+  pub measuring_done : fineLeft ≡ true → left ≡ [] → Some total ≡ measured fine whole
   unfolding measured
   measuring_done f e =
       let all : length (bytes_of whole) ≡ total = omega (arith, m.so_far, ap (λ (xs : List ℕ). length (bytes_of xs)) e, bytes_nil) in
-      rw (m.same_fine ∙ f) (ap Size.Bytes (sym all))
+      rw (m.same_fine ∙ f) (ap Some (sym all))
 
 -- ---- what was measured
 
-module _ (fine : Bool) (whole : List ℕ) (r : Measured) (e : r ≡ measured fine whole) where
-  never : (n : ℕ) → Size.Bad ≡ Size.Bytes n → ⊥
+module _ (fine : Bool) (whole : List ℕ) (r : Option ℕ) (e : r ≡ measured fine whole) where
+  never : (n : ℕ) → None ≡ Some n → ⊥
   never n z = let y : ◌≡◌ {A = ℕ} 0 1 = cc in omega arith
 
-  same_size : (m n : ℕ) → Size.Bytes m ≡ Size.Bytes n → m ≡ n
+  same_size : (m n : ℕ) → Some m ≡ Some n → m ≡ n
   same_size m n z = cc
 
-  size_of : (f : Bool) (n : ℕ) → measured f whole ≡ Size.Bytes n → (f ≡ true) × (length (bytes_of whole) ≡ n)
+  size_of : (f : Bool) (n : ℕ) → measured f whole ≡ Some n → (f ≡ true) × (length (bytes_of whole) ≡ n)
   unfolding measured
   size_of true n z = (refl, same_size (length (bytes_of whole)) n z)
   size_of false n z = absurd (never n z)
 
-  bad_of : (f : Bool) → measured f whole ≡ Size.Bad → f ≡ false
+  bad_of : (f : Bool) → measured f whole ≡ None → f ≡ false
   unfolding measured
   bad_of true z = absurd (never (length (bytes_of whole)) (sym z))
   bad_of false z = refl
 
-  pub fine_size : (n : ℕ) → r ≡ Size.Bytes n → (fine ≡ true) × (length (bytes_of whole) ≡ n)
+  pub fine_size : (n : ℕ) → r ≡ Some n → (fine ≡ true) × (length (bytes_of whole) ≡ n)
   fine_size n i = size_of fine n (sym e ∙ i)
 
-  pub fine_bad : r ≡ Size.Bad → fine ≡ false
+  pub fine_bad : r ≡ None → fine ≡ false
   fine_bad i = bad_of fine (sym e ∙ i)
 
 -- ---- seeds

@@ -1,4 +1,5 @@
 -- The writer's number, check by check; that it is 0 exactly where the level can be written and has room; and the parts put together. Assumes nothing.
+use Rattle.std.specs.Prelude.{Option, Some, None, Ok, Err}
 use Prim.Native.Nat.{ℕ, suc, ◌+◌, ◌^◌, ◌≤◌, ◌<◌}
 use native.Mathlib.Omega.{arith}
 use mathlib.Core.Path.{◌≡◌, refl, sym, ap, ◌∙◌}
@@ -11,15 +12,14 @@ use lib.Seq.{sets}
 use borrow.Author.Tests.{lt-ltb, le-ltb, eq-eqb, ne_eqb, ltb-false, eqb-true, not-false}
 use Rattle.rules.specs.declared.Settings.{Settings}
 use Rattle.rules.specs.Numbers.{Line, line, first_of, lines_to7}
-use Rattle.rules.specs.Answers.{Answer, Refusal}
-use Rattle.rules.proofs.Lines.{first_append_some, first_append_zero, first_append_none, first_applies, first_skips, first_none, none_zero}
+use Rattle.rules.specs.declared.Refusal as R
+use Rattle.rules.specs.Answers.{Answer, Refusal, number_of}
+use Rattle.rules.proofs.RefusalLaws.{number_positive, refused_first}
+use Rattle.rules.proofs.Lines.{first_append_zero, first_append_none, first_applies, first_skips, first_none, none_zero}
 use Rattle.rules.proofs.Tests.{is_true, is_false, of_true, of_false, and_left, and_right}
 use Rattle.rules.proofs.CheckLaws.{numbered_7, passes_7, good_7}
 use Rattle.rules.proofs.AnswerLaws.{unless_zero, unless_some, kept_zero, kept_some}
 use Rattle.house_numbers.specs.Encode.{encoded}
-use Rattle.level_file.specs.declared.writing.FileWritten.TheVariants as File
-use Rattle.level_file.specs.declared.writing.Measured.{Measured}
-use Rattle.level_file.specs.declared.writing.Measured.TheVariants as Size
 use Rattle.level_file.specs.Format.{Level, level_of, not_below, all_but, gaps_from, settings_numbers, numbers_of, bytes_of, file_of, seeds_fine, holes_fine, Writable, filled}
 use Rattle.level_file.specs.Writing.{measured, seeds_missing, values_bad, write_lines, write_number, said_written, write_answer, bytes_after, Climbs}
 use Rattle.level_file.proofs.DecodesLaws.{bytes_append}
@@ -33,9 +33,9 @@ module _ (l : Level) (room : ℕ) where
   tests : List Line
   tests = line 13 (seeds_missing l) ∷ line 24 (values_bad l) ∷ line 26 (ltb room (length (file_of l))) ∷ []
 
-  pub number_7 : (n : ℕ) → n ≡ first_of (lines_to7 l.settings) → n ≢ 0 → n ≡ write_number l room
+  pub number_7 : (why : R.Refusal) → number_of why ≡ first_of (lines_to7 l.settings) → number_of why ≡ write_number l room
   unfolding write_number write_lines
-  number_7 n e z = e ∙ sym (first_append_some (lines_to7 l.settings) _ (λ q. z (e ∙ q)))
+  number_7 why e = refused_first (lines_to7 l.settings) _ why e
 
   module _ (passed : first_of (lines_to7 l.settings) ≡ 0) where
     after_7 : write_number l room ≡ first_of tests
@@ -147,25 +147,29 @@ module _ (l : Level) where
 -- ---- what is said and left
 
 module _ (l : Level) (before : List ℕ) where
-  pub write_refused : (n : ℕ) → n ≡ write_number l (length before) → n ≢ 0 → said_written (File.Refused n) ≡ write_answer l (length before)
-  unfolding said_written write_answer
-  write_refused n e z = ap (λ (k : ℕ). Refusal k []) e ∙ sym (unless_some (write_number l (length before)) _ (λ q. z (e ∙ q)))
+  module _ (why : R.Refusal) (e : number_of why ≡ write_number l (length before)) where
+    applies : write_number l (length before) ≢ 0
+    applies z = let p = number_positive why in omega (arith, e, z)
 
-  pub write_zero : (n : ℕ) → n ≡ write_number l (length before) → n ≢ 0 → (after : List ℕ) → after ≡ replicate (length before) 0 → after ≡ bytes_after l before
-  unfolding bytes_after
-  write_zero n e z after i = i ∙ sym (kept_some (write_number l (length before)) _ _ (λ q. z (e ∙ q)))
-
-  module _ (n : ℕ) (e : n ≡ write_number l (length before)) (z : n ≡ 0) where
-    pub may_write : Writable l × (length (file_of l) ≤ length before)
-    may_write = wrote l (length before) (sym e ∙ z)
-
-    pub write_done : (k : ℕ) → k ≡ length (file_of l) → said_written (File.Length k) ≡ write_answer l (length before)
+    pub write_refused : said_written (Err why) ≡ write_answer l (length before)
     unfolding said_written write_answer
-    write_done k i = ap (λ (x : ℕ). Answer (x ∷ [])) i ∙ sym (unless_zero (write_number l (length before)) _ (sym e ∙ z))
+    write_refused = ap (λ (k : ℕ). Refusal k []) e ∙ sym (unless_some (write_number l (length before)) _ applies)
+
+    pub write_zero : (after : List ℕ) → after ≡ replicate (length before) 0 → after ≡ bytes_after l before
+    unfolding bytes_after
+    write_zero after i = i ∙ sym (kept_some (write_number l (length before)) _ _ applies)
+
+  module _ (z : 0 ≡ write_number l (length before)) where
+    pub may_write : Writable l × (length (file_of l) ≤ length before)
+    may_write = wrote l (length before) (sym z)
+
+    pub write_done : (k : ℕ) → k ≡ length (file_of l) → said_written (Ok k) ≡ write_answer l (length before)
+    unfolding said_written write_answer
+    write_done k i = ap (λ (x : ℕ). Answer (x ∷ [])) i ∙ sym (unless_zero (write_number l (length before)) _ (sym z))
 
     pub write_file : (after : List ℕ) → after ≡ filled (file_of l) before → after ≡ bytes_after l before
     unfolding bytes_after
-    write_file after i = i ∙ sym (kept_zero (write_number l (length before)) _ _ (sym e ∙ z))
+    write_file after i = i ∙ sym (kept_zero (write_number l (length before)) _ _ (sym z))
 
 -- ---- the number from what was measured
 
@@ -175,7 +179,7 @@ gaps_many before [] = refl
 gaps_many before (h ∷ hs) = ap suc (gaps_many h hs)
 
 module _ (s : Settings) (seeds holes : List ℕ) (room limit : ℕ) (passed : first_of (lines_to7 s) ≡ 0) (many : length seeds ≡ s.buckets) (is-limit : limit ≡ 2 ^ s.sb)
-    (a : Measured) (i : a ≡ measured (all_but (not_below limit) seeds) seeds) where
+    (a : Option ℕ) (i : a ≡ measured (all_but (not_below limit) seeds) seeds) where
   level : Level
   level = level_of s seeds holes
 
@@ -183,19 +187,19 @@ module _ (s : Settings) (seeds holes : List ℕ) (room limit : ℕ) (passed : fi
   unfolding seeds_fine
   seeds_by b e = ap (λ (k : ℕ). all_but (not_below k) seeds) (sym is-limit) ∙ e
 
-  pub bad_seeds : a ≡ Size.Bad → 24 ≡ write_number (level_of s seeds holes) room
+  pub bad_seeds : a ≡ None → 24 ≡ write_number (level_of s seeds holes) room
   unfolding level
   bad_seeds e = number_24 level room passed many (seeds_bad level room (seeds_by false (fine_bad _ seeds a i e)))
 
-  module _ (x : ℕ) (p : a ≡ Size.Bytes x) (b : Measured) (j : b ≡ measured (holes_fine s.m 0 0 holes) (gaps_from 0 holes)) where
+  module _ (x : ℕ) (p : a ≡ Some x) (b : Option ℕ) (j : b ≡ measured (holes_fine s.m 0 0 holes) (gaps_from 0 holes)) where
     fine_seeds : seeds_fine s seeds ≡ true
     fine_seeds = seeds_by true (fine_size _ seeds a i x p).0
 
-    pub bad_holes : b ≡ Size.Bad → 24 ≡ write_number (level_of s seeds holes) room
+    pub bad_holes : b ≡ None → 24 ≡ write_number (level_of s seeds holes) room
     unfolding level
     bad_holes e = number_24 level room passed many (holes_bad level room fine_seeds (fine_bad _ (gaps_from 0 holes) b j e))
 
-    module _ (y : ℕ) (q : b ≡ Size.Bytes y) where
+    module _ (y : ℕ) (q : b ≡ Some y) where
       fine_holes : holes_fine s.m 0 0 holes ≡ true
       fine_holes = (fine_size _ (gaps_from 0 holes) b j y q).0
 

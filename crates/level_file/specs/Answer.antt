@@ -1,11 +1,9 @@
 -- What reading a file answers, and what it leaves of the lent seeds and holes. Assumes nothing.
-use Rattle.std.specs.Prelude.{ℕ, ◌≡◌, List, [], ◌∷◌, ◌++◌, length, replicate}
+use Rattle.std.specs.Prelude.{Result, Ok, Err, ℕ, ◌≡◌, List, [], ◌∷◌, ◌++◌, length, replicate}
 use Rattle.rules.specs.declared.Settings.{Settings}
-use Rattle.rules.specs.Answers.{Said, Answer, Refusal}
-use Rattle.level_file.specs.declared.reading.Head.{Head}
-use Rattle.level_file.specs.declared.reading.Head.TheVariants as Top
-use Rattle.level_file.specs.declared.reading.FileRead.{FileRead}
-use Rattle.level_file.specs.declared.reading.FileRead.TheVariants as File
+use Rattle.rules.specs.declared.Refusal as R
+use Rattle.rules.specs.Answers.{Said, Answer, Refusal, number_of}
+use Rattle.level_file.specs.declared.reading.Level as Told
 use Rattle.level_file.specs.Format.{Level, settings_numbers, filled}
 use Rattle.level_file.specs.Reading.{Read}
 use Rattle.level_file.specs.Reading.Read.{Got, No}
@@ -15,9 +13,9 @@ unfoldable pub read_values : Settings → (holes : ℕ) → List ℕ
 read_values s count = settings_numbers s ++ count ∷ []
 
 -- each case of the answer in numbers
-unfoldable pub said_read : FileRead → Said
-said_read (File.Level s count) = Answer (read_values s count)
-said_read (File.Refused n) = Refusal n []
+unfoldable pub said_read : Result Told.Level R.Refusal → Said
+said_read (Ok l) = Answer (read_values l.settings l.hole_count)
+said_read (Err why) = Refusal (number_of why) []
 
 -- what is to be said
 unfoldable pub read_answer : Read Level → Said
@@ -35,13 +33,10 @@ holes_after (No n) before = replicate (length before) 0
 
 -- ---- within the reader
 
-unfoldable pub told_head : Read Settings → Head
-told_head (Got s end) = Top.Settings s end
-told_head (No n) = Top.Refused n
-
-unfoldable pub told_file : Read Level → FileRead
-told_file (Got l end) = File.Level l.settings (length l.holes)
-told_file (No n) = File.Refused n
+-- of a level that was read, how many holes it has
+unfoldable pub counted : Read Level → Read ℕ
+counted (Got l end) = Got (length l.holes) end
+counted (No n) = No n
 
 -- the lent seeds and holes where the file was accepted
 unfoldable pub LeavesSeeds : Read Level → (before after : List ℕ) → Type 0

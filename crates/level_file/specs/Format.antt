@@ -3,8 +3,7 @@ use Rattle.std.specs.Prelude.{ℕ, ◌+◌, ◌-◌, ◌^◌, Bool, true, not, �
 use Rattle.rules.specs.declared.Settings.{Settings}
 use Rattle.rules.specs.Good.{Good}
 use Rattle.rules.specs.Lists.{concat_map, every}
-use Rattle.house_numbers.specs.declared.Decoded.TheVariants as Read
-use Rattle.house_numbers.specs.Decode.{decoded_at}
+use Rattle.house_numbers.specs.Decode.{found, decoded_at}
 use Rattle.house_numbers.specs.Encode.{encoded}
 
 pub record Level : Type 0 where
@@ -69,7 +68,7 @@ pub record Writable (l : Level) : Type 0 where
 -- one house number from a place on, and what is said of the place after it
 pub record Front (bytes : List ℕ) (at v : ℕ) (Rest : (next : ℕ) → Type 0) : Type 0 where
   pub next : ℕ
-  pub number : decoded_at bytes at ≡ Read.Number v next
+  pub number : decoded_at bytes at ≡ found v next
   pub rest : Rest next
 
 -- the bytes from one place to another are these house numbers, one after the other

@@ -1,9 +1,10 @@
 -- What reading any bytes as a level file gives, number by number: a value and the place after it, or the number of a refusal. Assumes nothing.
-use Rattle.std.specs.Prelude.{ℕ, zero, suc, ◌+◌, Bool, cond, not, ◌||◌, List, [], ◌∷◌, ◌≡◌, ltb, leb, eqb, length}
+use Rattle.std.specs.Prelude.{Result, Ok, Err, ⊤, ℕ, zero, suc, ◌+◌, Bool, cond, not, ◌||◌, List, [], ◌∷◌, ◌≡◌, ltb, leb, eqb, length}
 use Rattle.rules.specs.declared.Settings.{Settings}
 use Rattle.rules.specs.Numbers.{first_of, lines_to7}
-use Rattle.level_file.specs.declared.Taken.{Taken}
-use Rattle.level_file.specs.declared.Taken.TheVariants as Take
+use Rattle.rules.specs.declared.Refusal.{Refusal}
+use Rattle.rules.specs.Answers.{number_of}
+use Rattle.house_numbers.specs.declared.Decoded.{Decoded}
 use Rattle.level_file.specs.Taking.{taken_at}
 use Rattle.level_file.specs.Format.{Level, level_of, seed_bad, filled}
 
@@ -26,9 +27,9 @@ module _ {A : Type 0} where
   refused_by zero r = r
   refused_by (suc n) r = No (suc n)
 
-unfoldable pub read_of : Taken → Read ℕ
-read_of (Take.Number v next) = Got v next
-read_of (Take.Refused n) = No n
+unfoldable pub read_of : Result Decoded Refusal → Read ℕ
+read_of (Ok d) = Got d.value d.next
+read_of (Err why) = No (number_of why)
 
 -- a hole that is `gap` above the one before: not rising (the gap is below the least that is allowed), or not below m
 unfoldable pub gap_bad : (m before least gap : ℕ) → Bool
@@ -89,10 +90,20 @@ module _ (bytes : List ℕ) where
 
 -- ---- what a part of the reader answers and leaves
 
--- of a list that was read: how many, and the place after them
-unfoldable pub told : Read (List ℕ) → Taken
-told (Got vs end) = Take.Number (length vs) end
-told (No n) = Take.Refused n
+-- an answer and the place after it, as what was read
+unfoldable pub read_as : {A : Type 0} → Result A Refusal → (at : ℕ) → Read A
+read_as (Ok x) at = Got x at
+read_as (Err why) at = No (number_of why)
+
+-- the same of a list that was read into a buffer
+unfoldable pub read_into : Result ⊤ Refusal → (buffer : List ℕ) → (at : ℕ) → Read (List ℕ)
+read_into (Ok done) buffer at = Got buffer at
+read_into (Err why) buffer at = No (number_of why)
+
+-- of a list that was read, how many
+unfoldable pub sized : Read (List ℕ) → Read ℕ
+sized (Got vs end) = Got (length vs) end
+sized (No n) = No n
 
 -- what a buffer holds where a list was read into it
 unfoldable pub Leaves : Read (List ℕ) → (before after : List ℕ) → Type 0

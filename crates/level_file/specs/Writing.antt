@@ -1,11 +1,8 @@
 -- What writing a level answers, and what it leaves of the lent bytes. Assumes nothing.
-use Rattle.std.specs.Prelude.{ℕ, ◌≤◌, Bool, cond, not, ◌&&◌, List, [], ◌∷◌, ◌++◌, ltb, eqb, length, replicate}
+use Rattle.std.specs.Prelude.{Option, Some, None, Result, Ok, Err, ℕ, ◌≤◌, Bool, cond, not, ◌&&◌, List, [], ◌∷◌, ◌++◌, ltb, eqb, length, replicate}
 use Rattle.rules.specs.Numbers.{Line, line, first_of, lines_to7}
-use Rattle.rules.specs.Answers.{Said, Answer, Refusal, unless, kept_unless}
-use Rattle.level_file.specs.declared.writing.FileWritten.{FileWritten}
-use Rattle.level_file.specs.declared.writing.FileWritten.TheVariants as File
-use Rattle.level_file.specs.declared.writing.Measured.{Measured}
-use Rattle.level_file.specs.declared.writing.Measured.TheVariants as Size
+use Rattle.rules.specs.declared.Refusal as R
+use Rattle.rules.specs.Answers.{Said, Answer, Refusal, number_of, unless, kept_unless}
 use Rattle.level_file.specs.Format.{Level, bytes_of, file_of, seeds_fine, holes_fine, filled}
 
 -- seeds not B long
@@ -24,9 +21,9 @@ unfoldable pub write_number : Level → (room : ℕ) → ℕ
 write_number l room = first_of (write_lines l room)
 
 -- each case of the answer in numbers
-unfoldable pub said_written : FileWritten → Said
-said_written (File.Length n) = Answer (n ∷ [])
-said_written (File.Refused n) = Refusal n []
+unfoldable pub said_written : Result ℕ R.Refusal → Said
+said_written (Ok n) = Answer (n ∷ [])
+said_written (Err why) = Refusal (number_of why) []
 
 -- what is to be said: the file's length
 unfoldable pub write_answer : Level → (room : ℕ) → Said
@@ -39,8 +36,8 @@ bytes_after l before = kept_unless (write_number l (length before)) (replicate (
 -- ---- within the writer
 
 -- the bytes that numbers take, where they may be written
-unfoldable pub measured : (fine : Bool) → (numbers : List ℕ) → Measured
-measured fine vs = cond fine (Size.Bytes (length (bytes_of vs))) Size.Bad
+unfoldable pub measured : (fine : Bool) → (numbers : List ℕ) → Option ℕ
+measured fine vs = cond fine (Some (length (bytes_of vs))) None
 
 -- no hole is below the one before
 unfoldable pub Climbs : (before : ℕ) → (holes : List ℕ) → Type 0

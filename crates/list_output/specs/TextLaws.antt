@@ -1,13 +1,11 @@
 -- Fields and lines taken off the front of a text, one by one. Assumes nothing.
-use Rattle.std.specs.Prelude.{ℕ, suc, ◌+◌, ◌-◌, ◌≤◌, ◌<◌, ◌≡◌, refl, List, [], ◌∷◌, ◌++◌, length, get_or, drop, set}
+use Rattle.std.specs.Prelude.{Option, Some, None, ℕ, suc, ◌+◌, ◌-◌, ◌≤◌, ◌<◌, ◌≡◌, refl, List, [], ◌∷◌, ◌++◌, length, get_or, drop, set}
 use Rattle.std.proofs.Common.{arith, add-one, sym, ◌∙◌, append_assoc, append-nil, drop_of_length-le, drop-cons}
 use Rattle.std.proofs.Math.Path.{ap}
 use Rattle.std.proofs.lemmas.List.Edits.{sets}
 use Rattle.rules.specs.Lists.{count_from, concat_map}
 use Rattle.list_output.specs.Text.{decimal, fields, line, refused_word, bucket_word, refused_text, bucket_line}
 use Rattle.rules.specs.Answers.{named_by}
-use Rattle.rules.specs.declared.Named.{Named}
-use Rattle.rules.specs.declared.Named.TheVariants.{Bucket, NoBucket}
 use Rattle.groups.specs.Groups.{size_in}
 use Rattle.list_output.specs.Writing.{Writing, write_start, write_piece}
 
@@ -64,10 +62,11 @@ three_written out s b h a d e p q r ep ea eq ed er ee =
     write_piece second h [] e r (sym (append-nil h)) ee er
 
 -- a refusal that names a bucket, and one that names none
-pub refused_bucket : (number b : ℕ) (named : Named) → named ≡ Bucket b → line refused_word (number ∷ b ∷ []) ≡ refused_text number (named_by named)
-unfolding refused_text named_by
-refused_bucket number b named e = rw e refl
+module _ (number n : ℕ) (same : number ≡ n) where
+  pub refused_bucket : (b : ℕ) (named : Option ℕ) → named ≡ Some b → line refused_word (number ∷ b ∷ []) ≡ refused_text n (named_by named)
+  unfolding refused_text named_by
+  refused_bucket b named e = rw (e, same) refl
 
-pub refused_plain : (number : ℕ) (named : Named) → named ≡ NoBucket → line refused_word (number ∷ []) ≡ refused_text number (named_by named)
-unfolding refused_text named_by
-refused_plain number named e = rw e refl
+  pub refused_plain : (named : Option ℕ) → named ≡ None → line refused_word (number ∷ []) ≡ refused_text n (named_by named)
+  unfolding refused_text named_by
+  refused_plain named e = rw (e, same) refl

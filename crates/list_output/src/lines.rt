@@ -9,12 +9,9 @@ fn put(out: &mut [u8], at: usize, text: &[u8]) -> usize
     ensures value { result ≡ at + length text.now }
     ensures out_after { out.new ≡ sets out.old at text.now }
 {
-    let mut i = 0;
-    while i < text.len() {
-        out[at + i] = text[i];
-        i += 1;
-    }
-    at + i
+    let end = at + text.len();
+    out[at..end].copy_from_slice(text);
+    end
 }
 
 // A space and a number.
@@ -36,10 +33,8 @@ fn put_fields(out: &mut [u8], at: usize, numbers: &[u64]) -> usize
     ensures out_after { out.new ≡ sets out.old at (fields numbers.now) }
 {
     let mut place = at;
-    let mut i = 0;
-    while i < numbers.len() {
-        place = put_number(out, place, numbers[i]);
-        i += 1;
+    for &number in numbers {
+        place = put_number(out, place, number);
     }
     place
 }

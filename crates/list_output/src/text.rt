@@ -2,41 +2,24 @@
 ghost use Rattle.std.specs.Prelude.{◌≡◌, [], ◌∷◌, ℕ, ◌+◌, ◌*◌, ◌≤◌, ◌<◌, length};
 ghost use Rattle.std.proofs.lemmas.List.Edits.{sets};
 ghost use Rattle.rules.specs.Lists.{below, concat_map};
-ghost use Rattle.rules.specs.Answers.{named_by};
+ghost use Rattle.rules.specs.Answers.{number_of, named_by};
 ghost use Rattle.groups.specs.Groups.{Grouped};
 ghost use Rattle.list_output.specs.Text.{line, bucket_word, refused_text, bucket_line, hole_line, sweep_line, done_text};
 
 use crate::lines::put_line;
 use groups::size_of;
-use rules::{Counts, Named};
-
-fn wide16(x: u16) -> u64
-    ensures { result ≡ x }
-{
-    x as u64
-}
-
-fn wide32(x: u32) -> u64
-    ensures { result ≡ x }
-{
-    x as u64
-}
+use rules::{Counts, Stop};
 
 // `refused N`, and the bucket where one is named.
-pub fn refused_text(number: u64, named: Named, out: &mut [u8]) -> usize
+pub fn refused_text(stop: Stop, out: &mut [u8]) -> usize
     requires { 50 ≤ length out.old }
-    ensures value { (result ≡ length (refused_text number (named_by named))) × (result ≤ 50) }
-    ensures out_after { out.new ≡ sets out.old 0 (refused_text number (named_by named)) }
+    ensures value { (result ≡ length (refused_text (number_of stop.why) (named_by stop.bucket))) × (result ≤ 50) }
+    ensures out_after { out.new ≡ sets out.old 0 (refused_text (number_of stop.why) (named_by stop.bucket)) }
 {
-    match named {
-        Named::Bucket(b) => {
-            let numbers = [number, b];
-            put_line(out, 0, b"refused", &numbers)
-        }
-        Named::NoBucket => {
-            let numbers = [number];
-            put_line(out, 0, b"refused", &numbers)
-        }
+    let number = stop.why.number();
+    match stop.bucket {
+        Some(bucket) => put_line(out, 0, b"refused", &[number, bucket]),
+        None => put_line(out, 0, b"refused", &[number]),
     }
 }
 
@@ -46,8 +29,7 @@ fn bucket_line(out: &mut [u8], at: usize, number: u64, keys: u64, seed: u64) -> 
     ensures value { (result ≡ at + length (line bucket_word (number ∷ keys ∷ seed ∷ []))) × (result ≤ at + 70) }
     ensures out_after { out.new ≡ sets out.old at (line bucket_word (number ∷ keys ∷ seed ∷ [])) }
 {
-    let numbers = [number, keys, seed];
-    put_line(out, at, b"bucket", &numbers)
+    put_line(out, at, b"bucket", &[number, keys, seed])
 }
 
 // A line for each bucket.
@@ -58,16 +40,9 @@ fn bucket_lines(out: &mut [u8], at: usize, begins: &[u32], seeds: &[u16]) -> usi
     ensures out_after { out.new ≡ sets out.old at (concat_map (bucket_line begins.now seeds.now) (below (length seeds.now))) }
 {
     let mut place = at;
-    let mut b = 0;
-    while b < seeds.len() {
-        place = bucket_line(
-            out,
-            place,
-            b as u64,
-            size_of(begins, b) as u64,
-            wide16(seeds[b]),
-        );
-        b += 1;
+    for (b, &seed) in seeds.iter().enumerate() {
+        let keys = size_of(begins, b);
+        place = bucket_line(out, place, b as u64, keys as u64, seed as u64);
     }
     place
 }
@@ -78,8 +53,7 @@ fn hole_line(out: &mut [u8], at: usize, slot: u64) -> usize
     ensures value { (result ≡ at + length (hole_line slot)) × (result ≤ at + 26) }
     ensures out_after { out.new ≡ sets out.old at (hole_line slot) }
 {
-    let numbers = [slot];
-    put_line(out, at, b"hole", &numbers)
+    put_line(out, at, b"hole", &[slot])
 }
 
 // A line for each hole.
@@ -89,10 +63,8 @@ fn hole_lines(out: &mut [u8], at: usize, holes: &[u32]) -> usize
     ensures out_after { out.new ≡ sets out.old at (concat_map hole_line holes.now) }
 {
     let mut place = at;
-    let mut i = 0;
-    while i < holes.len() {
-        place = hole_line(out, place, wide32(holes[i]));
-        i += 1;
+    for &hole in holes {
+        place = hole_line(out, place, hole as u64);
     }
     place
 }
@@ -103,16 +75,17 @@ fn sweep_line(m: u64, buckets: u64, keys: u64, counts: Counts, holes: u64, out: 
     ensures value { (result ≡ length (sweep_line m buckets keys counts holes)) × (result ≤ 153) }
     ensures out_after { out.new ≡ sets out.old 0 (sweep_line m buckets keys counts holes) }
 {
-    let numbers = [
-        m,
-        buckets,
-        keys,
-        counts.placed,
-        counts.bumped,
-        counts.zero,
-        holes,
-    ];
-    put_line(out, 0, b"sweep", &numbers)
+    let Counts {
+        placed,
+        bumped,
+        zero,
+    } = counts;
+    put_line(
+        out,
+        0,
+        b"sweep",
+        &[m, buckets, keys, placed, bumped, zero, holes],
+    )
 }
 
 // The listing of a sweep that was done.

@@ -6,12 +6,13 @@ use mathlib.Core.List.{List, [], ◌∷◌, ◌++◌}
 use lib.Dec.{ltb}
 use lib.ListN.{length, take, set, length-set}
 use lib.Seq.{sets}
+use Rattle.std.specs.Prelude.{Option, Some, None}
 use Rattle.house_numbers.specs.declared.Grown.{Grown}
 use Rattle.house_numbers.specs.declared.Grown.TheVariants as Grow
 use Rattle.house_numbers.specs.Decode.{grown_by}
 use Rattle.list_input.specs.declared.Scan.{Scan}
 use Rattle.list_input.specs.Form.{well_formed}
-use Rattle.list_input.specs.Scan.{scan_start, scan_by, store_by, fed_scan, fed_numbers, scan_ends}
+use Rattle.list_input.specs.Scan.{scan_start, scan_by, stored, store_by, fed_scan, fed_numbers, scan_ends}
 use Rattle.list_output.specs.Text.{refused_text}
 use Rattle.listing.specs.Listing.{asked_text, listing_of}
 use Rattle.listing.specs.Ends.{listing_unformed, listing_many, listing_kept, kept_formed}
@@ -19,15 +20,15 @@ use Rattle.listing.specs.Fed.{FedBy, Finished}
 
 -- ---- feeding
 
-store_long : (count : ℕ) (ns : List ℕ) (g : Grown) → length (store_by count ns g) ≡ length ns
-unfolding store_by
-store_long count ns (Grow.More p) = refl
-store_long count ns (Grow.Whole v) = go (ltb count 205)
+store_long : (count : ℕ) (ns : List ℕ) (g : Option Grown) → length (store_by count ns g) ≡ length ns
+unfolding store_by stored
+store_long count ns (Some (Grow.More p)) = refl
+store_long count ns (Some (Grow.Whole v)) = go (ltb count 205)
   where
     go : (t : Bool) → length (cond t (set ns count v) ns) ≡ length ns
     go true = length-set ns count v
     go false = refl
-store_long count ns Grow.Refused = refl
+store_long count ns None = refl
 
 fed_long : (bytes : List ℕ) (s : Scan) (ns : List ℕ) → length (fed_numbers s ns bytes) ≡ length ns
 unfolding fed_numbers

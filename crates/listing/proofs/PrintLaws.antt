@@ -9,18 +9,18 @@ use mathlib.Core.Option.{Option, none, some}
 use lib.ListN.{length, get_or, take, drop}
 use lib.Seq.{sets, sets-eq, take_at, length-sets}
 use Rattle.rules.specs.declared.Counts.{Counts}
-use Rattle.rules.specs.declared.Named.{Named}
-use Rattle.rules.specs.declared.Outcome.TheVariants as Ended
+use Rattle.rules.specs.declared.Refusal as R
+use Rattle.rules.specs.declared.Stop.{Stop}
 use Rattle.rules.specs.declared.SweepRecord.{SweepRecord}
-use Rattle.rules.specs.declared.Listed.{Listed}
-use Rattle.rules.specs.declared.Listed.TheVariants as Hole
+use Rattle.std.specs.Prelude.{Result, Ok, Err}
 use Rattle.rules.specs.Order.{Input, by_low_bits}
 use Rattle.rules.specs.Chunks.{in_one}
 use Rattle.rules.specs.Holes.{holes_of}
 use Rattle.rules.specs.Numbers.{Lent, lent_of, first_of, holes_lines, bitmap_words}
 use Rattle.rules.specs.Sweep.{final_seeds, final_bitmap}
-use Rattle.rules.specs.Answers.{Said, Answer, Refusal, named_by, count_values, counts_of, said_outcome, said_sweep, said_listed, holes_answer, holes_out, sweep_turns, stops_at, sweep_number, sweep_answer, sweep_seeds, sweep_bitmap}
+use Rattle.rules.specs.Answers.{Said, Answer, Refusal, number_of, named_by, count_values, counts_of, said_outcome, said_stop, said_sweep, said_count, holes_answer, holes_out, sweep_turns, stops_at, sweep_number, sweep_answer, sweep_seeds, sweep_bitmap}
 use Rattle.rules.proofs.AnswerLaws.{unless_zero, kept_zero, sweep_refused, sweep_done, sweep_stopped}
+use Rattle.rules.proofs.SaidLaws.{said_count_lem}
 use Rattle.rules.proofs.InputLaws.{passes}
 use Rattle.holes.proofs.Walk.{holes_length}
 use Rattle.holes.proofs.Cases.{all_fine}
@@ -32,11 +32,6 @@ use Rattle.listing.specs.Listing.{lent_by, done_of, printed, swept_text}
 answered : Said → ℕ
 answered (Answer xs) = 1
 answered (Refusal n xs) = 0
-
-first_value : Said → ℕ
-first_value (Answer []) = 0
-first_value (Answer (x ∷ xs)) = x
-first_value (Refusal n xs) = 0
 
 apart : {n : ℕ} {xs ys : List ℕ} → Answer xs ≡ Refusal n ys → ⊥
 unfolding answered
@@ -55,14 +50,9 @@ module _ (m : ℕ) (ws out : List ℕ) (low : 1 ≤ m) (high : m ≤ 1024) (word
   unfolding holes_answer
   answer_is = unless_zero (first_of (holes_lines m ws (length out))) (Answer (length (holes_of m ws) ∷ [])) fine
 
-  module _ (r : Listed) (n : ℕ) (said : said_listed r ≡ holes_answer m ws out) where
-    pub holes_count : r ≡ Hole.Holes n → n ≡ length (holes_of m ws)
-    unfolding said_listed first_value
-    holes_count e = ap first_value (sym (ap said_listed e) ∙ said ∙ answer_is)
-
-    pub holes_never : r ≡ Hole.Refused n → ⊥
-    unfolding said_listed
-    holes_never e = apart (sym answer_is ∙ sym said ∙ ap said_listed e)
+  pub holes_said : (r : Result ℕ R.Refusal) → said_count r ≡ holes_answer m ws out → r ≡ Ok (length (holes_of m ws))
+  unfolding said_count
+  holes_said r said = said_count_lem r (Ok (length (holes_of m ws))) (said ∙ answer_is)
 
   pub holes_front : (after : List ℕ) (n : ℕ) → after ≡ holes_out m ws out → n ≡ length (holes_of m ws) → take n after ≡ holes_of m ws
   unfolding holes_out
@@ -92,11 +82,11 @@ module _ (bump : Bool) (i : Input) (lent : Lent) (same : lent ≡ lent_by i) (r 
   said_own : said_sweep r ≡ sweep_answer by_low_bits (in_one bump) i (lent_by i)
   said_own = said ∙ ap (sweep_answer by_low_bits (in_one bump) i) same
 
-  pub swept_refused : (n : ℕ) (who : Named) → r.outcome ≡ Ended.Refused n who → swept_text bump i ≡ refused_text n (named_by who)
-  unfolding swept_text printed said_sweep said_outcome
-  swept_refused n who e = ap (λ (s : Said). printed s (done_of i)) (sym said_own ∙ ap said_outcome e)
+  pub swept_refused : (stop : Stop) → r.outcome ≡ Err stop → swept_text bump i ≡ refused_text (number_of stop.why) (named_by stop.bucket)
+  unfolding swept_text printed said_sweep said_outcome said_stop
+  swept_refused stop e = ap (λ (s : Said). printed s (done_of i)) (sym said_own ∙ ap said_outcome e)
 
-  pub swept_done : (counts : Counts) (before before' seeds bitmap : List ℕ) → r.outcome ≡ Ended.Done counts → seeds ≡ sweep_seeds by_low_bits (in_one bump) i lent before → bitmap ≡ sweep_bitmap by_low_bits (in_one bump) i lent before'
+  pub swept_done : (counts : Counts) (before before' seeds bitmap : List ℕ) → r.outcome ≡ Ok counts → seeds ≡ sweep_seeds by_low_bits (in_one bump) i lent before → bitmap ≡ sweep_bitmap by_low_bits (in_one bump) i lent before'
       → Swept bump i counts seeds bitmap
   unfolding said_sweep said_outcome sweep_number swept_text printed
   swept_done counts before before' seeds bitmap e f g = go (sweep_number (in_one bump) i lent) refl (stops_at by_low_bits (in_one bump) i) refl

@@ -10,11 +10,11 @@ mod printing;
 
 use crate::printing::asked;
 use checks::largest_size;
-use geometry::settings::number_to_7;
+use geometry::settings::check_settings;
 use geometry::shape::{geometry_of, work_words};
 use list_input::{Scan, feed, scan_ends, start};
 use list_output::refused_text;
-use rules::{Named, Settings};
+use rules::{Refusal, Settings};
 
 // The W test of 19: the work words needed are over 8,192. Settings that one of 1 to 7 refuses skip it.
 pub fn over_work(settings: Settings, begins: &[u32]) -> bool
@@ -22,14 +22,11 @@ pub fn over_work(settings: Settings, begins: &[u32]) -> bool
     requires buckets_value { rising begins.now settings.buckets ≡ true }
     ensures { WorkTest settings begins.now result }
 {
-    if number_to_7(settings) != 0 {
+    if check_settings(settings).is_err() {
         return false;
     }
     let z = largest_size(begins, settings.buckets as usize) as u64;
-    if z > 4096 {
-        return true;
-    }
-    work_words(geometry_of(settings), z) > 8192
+    z > 4096 || work_words(geometry_of(settings), z) > 8192
 }
 
 // What is printed at the end of the input: the scan and the numbers kept say it all. Answers how many bytes it wrote.
@@ -41,10 +38,10 @@ pub fn finish(scan: Scan, numbers: &[u64], out: &mut [u8]) -> usize
 {
     let count = scan.count;
     if !scan_ends(scan) {
-        return refused_text(18, Named::NoBucket, out);
+        return refused_text(Refusal::Form.into(), out);
     }
     if count > 205 {
-        return refused_text(19, Named::NoBucket, out);
+        return refused_text(Refusal::TooLarge.into(), out);
     }
     asked(&numbers[..count], out)
 }

@@ -14,7 +14,7 @@ use crate::over_work;
 use holes::holes;
 use list_input::{bump_of, over_size, settings_of, split, weights_of};
 use list_output::{done_text, refused_text};
-use rules::{Counts, How, Listed, Named, Outcome, Settings};
+use rules::{Counts, How, Refusal, Settings};
 use sweep::sweep;
 
 // The listing of a sweep that was done: lists the holes of its bitmap and prints all.
@@ -33,14 +33,9 @@ fn listed(
     ensures out_after { out.new ≡ sets out.old 0 (done_text m keys counts begins.now seeds.now (holes_of m bitmap.now)) }
 {
     let mut slots = [0u32; 1024];
-    match holes(m, bitmap, &mut slots) {
-        Listed::Holes(n) => {
-            let found = n as usize;
-            done_text(m, keys, counts, begins, seeds, &slots[..found], out)
-        }
-        // Not reached: m and the bitmap's length are right, and there is room for every slot.
-        Listed::Refused(n) => refused_text(n, Named::NoBucket, out),
-    }
+    // It is no refusal: m and the bitmap's length are right, and there is room for every slot.
+    let found = holes(m, bitmap, &mut slots).unwrap() as usize;
+    done_text(m, keys, counts, begins, seeds, &slots[..found], out)
 }
 
 // The sweep, in one chunk, in buffers of the lengths wanted, and what is printed of it.
@@ -62,17 +57,13 @@ fn swept(
     ensures value { (result ≡ length (swept_text bump (input_of settings weights hashes.now begins.now table.now))) × (result ≤ 32768) }
     ensures out_after { out.new ≡ sets out.old 0 (swept_text bump (input_of settings weights hashes.now begins.now table.now)) }
 {
-    let how = How {
-        bump: bump,
-        chunks: 1,
-    };
+    let how = How { bump, chunks: 1 };
     let r = sweep(
         settings, weights, how, hashes, begins, table, seeds, bitmap, work,
     );
-    let outcome = r.outcome;
-    match outcome {
-        Outcome::Refused(number, named) => refused_text(number, named, out),
-        Outcome::Done(counts) => listed(
+    match r.outcome {
+        Err(stop) => refused_text(stop, out),
+        Ok(counts) => listed(
             settings.m,
             hashes.len() as u64,
             counts,
@@ -103,7 +94,7 @@ fn swept_alone(
     let mut bitmap = [0u64; 16];
     let mut work = [0u64; 8192];
     let buckets = settings.buckets as usize;
-    let words = (settings.m as usize + 63) / 64;
+    let words = settings.m.div_ceil(64) as usize;
     swept(
         settings,
         weights,
@@ -126,7 +117,7 @@ pub fn asked(ns: &[u64], out: &mut [u8]) -> usize
     ensures out_after { out.new ≡ sets out.old 0 (asked_text ns.now) }
 {
     if over_size(ns) {
-        return refused_text(19, Named::NoBucket, out);
+        return refused_text(Refusal::TooLarge.into(), out);
     }
     let mut hashes = [0u64; 128];
     let mut begins = [0u32; 65];
@@ -134,7 +125,7 @@ pub fn asked(ns: &[u64], out: &mut [u8]) -> usize
     let settings = settings_of(ns);
     let ends = settings.buckets as usize + 1;
     if over_work(settings, &begins[..ends]) {
-        return refused_text(19, Named::NoBucket, out);
+        return refused_text(Refusal::TooLarge.into(), out);
     }
     swept_alone(
         settings,

@@ -1,12 +1,11 @@
 // Lookup of a hash: nothing if its bucket's seed is 0, for then it was bumped, else its position (rule H).
 #![tactic(auto)]
 
-ghost use Rattle.std.specs.Prelude.{◌≡◌, length, option_to_list, OnOk, IfOk, IsTrue};
+ghost use Rattle.std.specs.Prelude.{◌≡◌, length, option_to_list};
 ghost use Rattle.rules.specs.Holes.{looked_up};
-ghost use Rattle.rules.specs.Numbers.{first_of, lookup_lines};
-ghost use Rattle.rules.specs.Answers.{refused_by, said_looked, lookup_answer};
+ghost use Rattle.rules.specs.Answers.{said_looked, lookup_answer};
 ghost use Rattle.geometry.specs.Shape.{Made};
-ghost use Rattle.geometry.specs.Usual.{Usual, usual_settings};
+ghost use Rattle.geometry.specs.Usual.{usual_settings};
 
 use geometry::place::{bucket_of, position};
 use geometry::settings::check_to_6;
@@ -26,29 +25,31 @@ pub fn lookup_in(g: Geometry, seeds: &[u16], hash: u64) -> Option<u64>
     }
 }
 
-// The geometry of settings by which a lookup goes, where it refuses neither them nor the seeds.
-fn checked(settings: Settings, seeds: &[u16]) -> Result<Geometry, Refusal>
-    ensures number { refused_by result ≡ first_of (lookup_lines settings (length seeds.now)) }
-    ensures seeds_len { OnOk result (length seeds.now ≡ settings.buckets) }
-    ensures made { IfOk result (λ g. Made g) }
-    ensures same { IfOk result (λ g. g.settings ≡ settings) }
-    ensures usual { IfOk result (λ g. IsTrue (usual_settings settings) → Usual g) }
+// The lookup past the choice of its shape: in the default one the geometry's numbers are literals.
+fn lookup_by<const DEFAULT: bool>(
+    settings: Settings,
+    seeds: &[u16],
+    hash: u64,
+) -> Result<Option<u64>, Refusal>
+    requires { DEFAULT ≡ usual_settings settings }
+    ensures { said_looked result ≡ lookup_answer settings seeds.now hash }
 {
     check_to_6(settings)?;
     if seeds.len() as u64 != settings.buckets {
         return Err(Refusal::Lengths);
     }
-    Ok(geometry_of(settings))
+    let g = geometry_of(settings);
+    let shaped = if DEFAULT { literal(g) } else { g };
+    Ok(lookup_in(shaped, seeds, hash))
 }
 
-// Looks a hash up. It need not be that of a key, and a seed is used as it stands. With the default settings the geometry's numbers
-// are literals.
+// Looks a hash up. It need not be that of a key, and a seed is used as it stands.
 pub fn lookup(settings: Settings, seeds: &[u16], hash: u64) -> Result<Option<u64>, Refusal>
     ensures { said_looked result ≡ lookup_answer settings seeds.now hash }
 {
     if usual_settings(settings) {
-        Ok(lookup_in(literal(checked(settings, seeds)?), seeds, hash))
+        lookup_by::<true>(settings, seeds, hash)
     } else {
-        Ok(lookup_in(checked(settings, seeds)?, seeds, hash))
+        lookup_by::<false>(settings, seeds, hash)
     }
 }

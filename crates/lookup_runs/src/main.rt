@@ -2,7 +2,7 @@
 // ll, sb, B, the number of seeds, the hash; and the answer. `expected.py` makes the file `stdout`.
 #![tactic(auto)]
 
-use rules::{Looked, Settings};
+use rules::Settings;
 
 fn put(x: u64) {
     io::print_decimal(1, x);
@@ -19,23 +19,23 @@ fn run(m: u64, log2_slice_len: u64, ll: u64, sb: u64, buckets: u64, seeds: &[u16
     put(seeds.len() as u64);
     put(hash);
     let s = Settings {
-        m: m,
-        log2_slice_len: log2_slice_len,
-        ll: ll,
-        sb: sb,
-        buckets: buckets,
+        m,
+        log2_slice_len,
+        ll,
+        sb,
+        buckets,
     };
     match lookup::lookup(s, seeds, hash) {
-        Looked::Bumped => {
+        Ok(None) => {
             io::write_all(1, b"bumped");
         }
-        Looked::At(x) => {
+        Ok(Some(x)) => {
             io::write_all(1, b"at ");
             io::print_decimal(1, x);
         }
-        Looked::Refused(n) => {
+        Err(why) => {
             io::write_all(1, b"refused ");
-            io::print_decimal(1, n);
+            io::print_decimal(1, why.number());
         }
     }
     io::write_all(1, b"\n");

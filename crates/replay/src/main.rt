@@ -7,13 +7,11 @@ mod answers;
 mod reading;
 mod rubbish;
 
-use answers::{done_held, in_numbers, stopped_held};
+use answers::{done_held, stopped_held};
 use checks::check_all;
 use comparing::{Tally, held};
-use integers::choice::smaller;
 use list_input::{bump_of, settings_of, weights_of};
-use reading::number;
-use rules::{How, Settings};
+use rules::{How, Refusal, Settings};
 use sweep::sweep;
 
 // What was compared, and how many cases were too large.
@@ -23,116 +21,107 @@ struct Replayed {
     large: u64,
 }
 
+// What a sweep is given, and the number by which the Rust refused, or 0.
+#[derive(Clone, Copy)]
+struct Case<'a> {
+    number: u64,
+    settings: Settings,
+    weights: [i64; 7],
+    how: How,
+    hashes: &'a [u64],
+    begins: &'a [u32],
+    table: &'a [u32],
+    refused: u64,
+}
+
 fn too_large(i: u64, refused: u64, so_far: Replayed) -> Replayed {
-    let tally = so_far.tally;
-    let large = so_far.large;
     reading::skip_answer(refused);
     io::write_all(1, b"case ");
     io::print_decimal(1, i);
     io::write_all(1, b": too large\n");
     Replayed {
-        tally: tally,
-        large: std::num::wrapping_add_u64(large, 1),
+        large: so_far.large.wrapping_add(1),
+        ..so_far
     }
 }
 
 // The sweep of a case, and the Rust's answer. Of the work it needs `used` words, and gets a few more.
 fn swept(
-    i: u64,
-    settings: Settings,
-    weights: [i64; 7],
-    how: How,
-    hashes: &[u64],
-    begins: &[u32],
-    table: &[u32],
+    case: Case,
     seeds: &mut [u16],
     bitmap: &mut [u64],
     work: &mut [u64],
     places: &mut [u32],
     used: u64,
-    refused: u64,
-    t0: Tally,
+    t: Tally,
 ) -> Tally {
     rubbish::in_seeds(seeds);
     rubbish::in_words(bitmap);
     rubbish::in_words(work);
-    let here = in_numbers(sweep(
-        settings, weights, how, hashes, begins, table, seeds, bitmap, work,
-    ));
-    let t = held(t0, i, b"work words wrong", rubbish::worked(work, used), 0);
-    if refused != 0 {
-        return stopped_held(i, refused, here, seeds, bitmap, t);
+    let here = sweep(
+        case.settings,
+        case.weights,
+        case.how,
+        case.hashes,
+        case.begins,
+        case.table,
+        seeds,
+        bitmap,
+        work,
+    )
+    .outcome;
+    let i = case.number;
+    let left = rubbish::worked(work, used);
+    let t = held(t, i, b"work words wrong", left, 0);
+    if case.refused != 0 {
+        return stopped_held(i, case.refused, here, seeds, bitmap, t);
     }
-    done_held(i, settings.m, here, begins, seeds, bitmap, places, t)
+    done_held(
+        i,
+        case.settings.m,
+        here,
+        case.begins,
+        seeds,
+        bitmap,
+        places,
+        t,
+    )
 }
 
 // A case whose hashes, begins, seeds and bitmap have room: the work must have, too.
 fn fitted(
-    i: u64,
-    settings: Settings,
-    weights: [i64; 7],
-    how: How,
-    hashes: &[u64],
-    begins: &[u32],
-    table: &[u32],
+    case: Case,
     seeds: &mut [u16],
     bitmap: &mut [u64],
     work: &mut [u64],
     places: &mut [u32],
-    refused: u64,
     so_far: Replayed,
 ) -> Replayed {
     let size = work.len();
-    let v = check_all(
-        settings,
-        weights,
-        how,
-        hashes,
-        begins,
-        table,
+    let used = match check_all(
+        case.settings,
+        case.weights,
+        case.how,
+        case.hashes,
+        case.begins,
+        case.table,
         seeds.len(),
         bitmap.len(),
         size,
-    );
-    if v.number == 13 {
-        return too_large(i, refused, so_far);
-    }
-    let used = v.words;
-    let before = so_far.tally;
-    let large = so_far.large;
-    let lent = smaller(std::num::wrapping_add_u64(used, 8), size as u64) as usize;
-    let tally = swept(
-        i,
-        settings,
-        weights,
-        how,
-        hashes,
-        begins,
-        table,
-        seeds,
-        bitmap,
-        &mut work[..lent],
-        places,
-        used,
-        refused,
-        before,
-    );
-    Replayed {
-        tally: tally,
-        large: large,
-    }
+    ) {
+        Ok(room) => room.words,
+        Err(Refusal::Lengths) => return too_large(case.number, case.refused, so_far),
+        Err(_) => 0,
+    };
+    let lent = used.wrapping_add(8).min(size as u64) as usize;
+    let work = &mut work[..lent];
+    let tally = swept(case, seeds, bitmap, work, places, used, so_far.tally);
+    Replayed { tally, ..so_far }
 }
 
-// The words of a bitmap.
-fn words_of(slots: usize) -> usize {
-    if slots % 64 == 0 {
-        return slots / 64;
-    }
-    slots / 64 + 1
-}
-
-fn case(
-    i: u64,
+// Reads a case and replays it.
+fn one_case(
+    number: u64,
     table: &[u32],
     hashes: &mut [u64],
     begins: &mut [u32],
@@ -144,47 +133,36 @@ fn case(
 ) -> Replayed {
     let head = reading::head();
     let settings = settings_of(&head);
-    let weights = weights_of(&head);
-    let how = How {
-        bump: bump_of(&head),
-        chunks: 1,
-    };
     let buckets = settings.buckets as usize;
     let slots = settings.m as usize;
-    let ends = std::num::wrapping_add_u64(settings.buckets, 1) as usize;
+    let words = slots.div_ceil(64);
+    let ends = settings.buckets.wrapping_add(1) as usize;
     let keys = reading::groups(settings.buckets, hashes, begins) as usize;
-    let refused = number();
-    if keys > hashes.len() {
-        return too_large(i, refused, so_far);
+    let refused = reading::number();
+    let fits = keys <= hashes.len()
+        && ends <= begins.len()
+        && buckets <= seeds.len()
+        && slots <= places.len()
+        && words <= bitmap.len();
+    if !fits {
+        return too_large(number, refused, so_far);
     }
-    if ends > begins.len() {
-        return too_large(i, refused, so_far);
-    }
-    if buckets > seeds.len() {
-        return too_large(i, refused, so_far);
-    }
-    if slots > places.len() {
-        return too_large(i, refused, so_far);
-    }
-    let words = words_of(slots);
-    if words > bitmap.len() {
-        return too_large(i, refused, so_far);
-    }
-    fitted(
-        i,
+    let case = Case {
+        number,
         settings,
-        weights,
-        how,
-        &hashes[..keys],
-        &begins[..ends],
+        weights: weights_of(&head),
+        how: How {
+            bump: bump_of(&head),
+            chunks: 1,
+        },
+        hashes: &hashes[..keys],
+        begins: &begins[..ends],
         table,
-        &mut seeds[..buckets],
-        &mut bitmap[..words],
-        work,
-        places,
         refused,
-        so_far,
-    )
+    };
+    let seeds = &mut seeds[..buckets];
+    let bitmap = &mut bitmap[..words];
+    fitted(case, seeds, bitmap, work, places, so_far)
 }
 
 fn cases(
@@ -205,7 +183,7 @@ fn cases(
         large: 0,
     };
     for i in 0..count {
-        so_far = case(
+        so_far = one_case(
             i, table, hashes, begins, seeds, bitmap, work, places, so_far,
         );
     }
@@ -221,7 +199,7 @@ fn main() {
     let mut work = [0u64; 262144];
     let mut places = [0u32; 262144];
     reading::table(&mut table);
-    let count = number();
+    let count = reading::number();
     let all = cases(
         count,
         &table,
@@ -236,6 +214,5 @@ fn main() {
     io::write_all(1, b" cases, ");
     io::print_decimal(1, all.large);
     io::write_all(1, b" too large\n");
-    let tally = all.tally;
-    comparing::close(tally);
+    comparing::close(all.tally);
 }

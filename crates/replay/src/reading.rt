@@ -1,5 +1,5 @@
 // The cases on standard input, in house numbers. What has no room is read and not kept.
-ghost use Rattle.std.specs.Prelude.{◌≡◌, length};
+ghost use Rattle.std.specs.Prelude.{◌≤◌, length};
 
 use house_numbers::{Grown, Part, grow};
 
@@ -12,67 +12,45 @@ fn byte() -> u8 {
 
 // The next number. Where there is none it is 0.
 pub fn number() -> u64 {
-    let mut part = Part {
-        value: 0,
-        groups: 0,
-    };
-    for _ in 0..10u64 {
+    let mut part = Part::default();
+    for _ in 0..10 {
         match grow(part, byte()) {
-            Grown::More(more) => {
-                part = more;
-            }
-            Grown::Whole(value) => {
-                return value;
-            }
-            Grown::Refused => {
-                return 0;
-            }
+            Some(Grown::More(more)) => part = more,
+            Some(Grown::Whole(value)) => return value,
+            None => return 0,
         }
     }
     0
 }
 
-fn keep(xs: &mut [u64], at: u64, x: u64) {
-    let i = at as usize;
-    if i < xs.len() {
-        xs[i] = x;
+fn keep<T: Copy + Drop>(xs: &mut [T], at: u64, x: T) {
+    if let Some(place) = xs.get_mut(at as usize) {
+        *place = x;
     }
 }
 
-fn keep_short(xs: &mut [u32], at: u64, x: u64) {
-    let i = at as usize;
-    if i < xs.len() {
-        xs[i] = (x % 4_294_967_296) as u32;
-    }
+// The low 32 bits.
+fn short(x: u64) -> u32 {
+    (x % 4_294_967_296) as u32
 }
 
 // The head of a case, as `list_input` takes it apart: m, log2_slice_len, ll, sb, the bump flag, the weights and B.
 pub fn head() -> [u64; 13]
-    ensures { 13 ≡ length result }
+    ensures { 13 ≤ length result }
 {
-    [
-        number(),
-        number(),
-        number(),
-        number(),
-        number(),
-        number(),
-        number(),
-        number(),
-        number(),
-        number(),
-        number(),
-        number(),
-        number(),
-    ]
+    let mut head = [0; 13];
+    for x in head.iter_mut() {
+        *x = number();
+    }
+    head
 }
 
 // The logarithm table, each entry as its difference from the one before.
 pub fn table(xs: &mut [u32]) {
     let mut entry: u64 = 0;
     for i in 0..number() {
-        entry = std::num::wrapping_add_u64(entry, number());
-        keep_short(xs, i, entry);
+        entry = entry.wrapping_add(number());
+        keep(xs, i, short(entry));
     }
 }
 
@@ -81,19 +59,19 @@ fn bucket(hashes: &mut [u64], from: u64) -> u64 {
     let mut at = from;
     for _ in 0..number() {
         keep(hashes, at, number());
-        at = std::num::wrapping_add_u64(at, 1);
+        at = at.wrapping_add(1);
     }
     at
 }
 
 // All buckets: their hashes, and where each begins and the last ends. Answers the number of keys.
 pub fn groups(buckets: u64, hashes: &mut [u64], begins: &mut [u32]) -> u64 {
-    let mut keys: u64 = 0;
+    let mut keys = 0;
     for b in 0..buckets {
-        keep_short(begins, b, keys);
+        keep(begins, b, short(keys));
         keys = bucket(hashes, keys);
     }
-    keep_short(begins, buckets, keys);
+    keep(begins, buckets, short(keys));
     keys
 }
 

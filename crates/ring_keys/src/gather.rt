@@ -17,13 +17,12 @@ fn add_row<const WHOLE: bool>(ring: Ring, work: &mut [u64], d: u64, start: usize
     requires n_value { IsTrue WHOLE → ring.n ≡ 64 }
     ensures { RowAdded ring work.old d start p work.new }
 {
-    let v = &work[..];
     let row = if WHOLE {
-        key_row_64(ring, v, d, start)
+        key_row_64(ring, work, d, start)
     } else {
-        key_row(ring, v, d, start, 0)
+        key_row(ring, work, d, start, 0)
     };
-    work[p] = work[p] | row;
+    work[p] |= row;
 }
 
 // The ring keys of hash h, layout r's to work[at + r size], each with its row added to work[to + r].

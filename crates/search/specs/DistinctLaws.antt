@@ -102,9 +102,8 @@ unfolding best_distinct
 rows_none g table work at size start to count =
     sym (of_none (λ (r : ℕ). cost_at g table (row_at work at size r)) (λ (r : ℕ). is_distinct g start (row_at work at size r) (row_at work to count r)) g.n)
 
-pub rows_more : (g : Ring) (table work : List ℕ) (at size start to count r : ℕ) {a f : ℕ} {b b' : Best} → b ≡ best_distinct g table work at size start to count r
-    → a ≡ at + r * size → f ≡ to + r * count
-    → b' ≡ best_from (cost_at g table (part work a size)) (is_distinct g start (part work a size) (part work f count)) r b 0 g.n
+pub rows_more : (g : Ring) (table work : List ℕ) (at size start to count r : ℕ) {b b' : Best} → b ≡ best_distinct g table work at size start to count r
+    → b' ≡ best_from (cost_at g table (row_at work at size r)) (is_distinct g start (row_at work at size r) (row_at work to count r)) r b 0 g.n
     → b' ≡ best_distinct g table work at size start to count (r + 1)
 unfolding best_distinct best_of
-rows_more g table work at size start to count r e ea ef e' = e' ∙ rw (add-one, ea, ef, e) refl
+rows_more g table work at size start to count r e e' = e' ∙ rw (add-one, e) refl

@@ -1,6 +1,6 @@
 -- The filled free words are what the look for the best free rotation asks for, and with the best that it finds among them they are what it promises.
 -- Assumes nothing.
-use Rattle.std.specs.Prelude.{◌≡◌, Bool, not, ℕ, zero, suc, ◌+◌, ◌-◌, ◌*◌, ◌/◌, ◌^◌, ◌≤◌, ◌<◌, T, eqb, length, drop}
+use Rattle.std.specs.Prelude.{◌≡◌, Bool, not, ℕ, zero, suc, ◌+◌, ◌-◌, ◌*◌, ◌/◌, ◌^◌, ◌≤◌, ◌<◌, max, T, eqb, length, drop}
 use Rattle.std.proofs.Math.Path.{sym, ap}
 use Rattle.std.proofs.Common.{◌∙◌, ⊎_elim, arith, get_or-drop}
 use mathlib.Core.List.{List}
@@ -12,6 +12,7 @@ use Rattle.integers.specs.Division.{pow_split}
 use Rattle.integers.specs.Shifts.{pow_le_cancel}
 use Rattle.rings.specs.declared.Ring.{Ring}
 use Rattle.rings.specs.Ring.{Shape}
+use Rattle.rings.specs.RingLaws.{n_pos}
 use Rattle.rings.specs.Keys.{cost_at, free_at}
 use Rattle.rings.specs.Free.{FilledTo}
 use Rattle.rings.specs.FilledLaws.{whole_words}
@@ -29,11 +30,15 @@ use Rattle.search.specs.Rows.{row_at, best_rows, FreeWords, Looked}
 
 -- ---- free words
 
-pub free_one_word : (n : ℕ) → 0 < n → n < 64 → FreeWords n 1
-free_one_word n p h = record { whole = omega arith; short = omega arith; some = omega arith }
+-- n is a power of two: below 64 one word is enough, and from 64 on it is a multiple of 64
+pub free_words_is : (g : Ring) → Shape g → FreeWords g.n (max (g.n / 64) 1)
+free_words_is g s = ⊎_elim few many (lt_or_ge g.n 64)
+  where
+    few : g.n < 64 → FreeWords g.n (max (g.n / 64) 1)
+    few h = record { whole = omega arith; short = omega (arith, n_pos g s); some = omega arith }
 
-pub free_more_words : (g : Ring) → Shape g → 64 ≤ g.n → FreeWords g.n (g.n / 64)
-free_more_words g s h = let e = whole_words g s h in record { whole = omega arith; short = omega arith; some = omega arith }
+    many : 64 ≤ g.n → FreeWords g.n (max (g.n / 64) 1)
+    many h = let e = whole_words g s h in record { whole = omega arith; short = omega arith; some = omega arith }
 
 -- n is a power of two, and so are they
 free_power : (g : Ring) {count : ℕ} → Shape g → FreeWords g.n count → Power count

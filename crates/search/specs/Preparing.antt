@@ -17,7 +17,8 @@ use Rattle.ring_keys.specs.RingKey.{Bucket, KeysFilled}
 use Rattle.ring_keys.specs.Gathered.{Ready, Gathered}
 use Rattle.ring_keys.specs.FilledLaws.{filled_ok}
 use Rattle.search.specs.Rows.{FreeWords}
-use Rattle.search.specs.Usual.{Usual, usual_ring}
+use Rattle.geometry.specs.Usual.{Usual}
+use Rattle.search.specs.Usual.{usual_ring}
 
 -- the hashes are a bucket's, the ring is the level's, and the ring keys from `at` on end before the free words from `to` on
 pub record Preparing (g : Geometry) (ring : Ring) (hashes : List ℕ) (start at to count : ℕ) (work : List ℕ) : Type 0 where

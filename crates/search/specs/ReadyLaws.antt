@@ -213,10 +213,11 @@ module _ {i : Input} {marked : List ℕ} {first : ℕ} {g : Geometry} {ring : Ri
 
     -- the best free rotation found
     pub code_laid : {f : Best} {after : List ℕ}
-        → (f ≡ best_free ring table (part now ring.words (g.layouts * length keys)) (length keys) (part now (ring.words + z * (g.layouts + 2)) (g.layouts * count)) count g.layouts) × Kept (ring.words + z * (g.layouts + 2) + g.layouts * count) now after
+        → f ≡ best_free ring table (part now ring.words (g.layouts * length keys)) (length keys) (part now (ring.words + z * (g.layouts + 2)) (g.layouts * count)) count g.layouts
+        → Kept (ring.words + z * (g.layouts + 2) + g.layouts * count) now after
         → LaidBest i marked first b ring g.layouts table keys start ring.words (ring.words + z * g.layouts) (ring.words + z * (g.layouts + 2)) count bitmap work f after
-    code_laid {f} {after} e =
-        let l : Looked ring table k.filled ring.words (length keys) start (ring.words + z * (g.layouts + 2)) count g.layouts f after = looked (ready_shape q) code_free w code_end code_room e.1 e.0 in
+    code_laid {f} {after} e kept =
+        let l : Looked ring table k.filled ring.words (length keys) start (ring.words + z * (g.layouts + 2)) count g.layouts f after = looked (ready_shape q) code_free w code_end code_room kept e in
         record {
           laid = laid q es (omega arith) keys_room k.keys (keys_fit q) (omega (arith, q.few)) (omega (arith, map_fits q count w)) l;
           is = l.is;

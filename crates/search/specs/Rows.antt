@@ -1,6 +1,6 @@
 -- Layout after layout in the work words: a layout's keys or free words, the best free rotation of all layouts, and what the look for it leaves.
 -- Assumes nothing.
-use Rattle.std.specs.Prelude.{◌≡◌, List, ℕ, ◌+◌, ◌*◌, ◌≤◌, ◌<◌, eqb, length, take}
+use Rattle.std.specs.Prelude.{◌≡◌, ◌≢◌, List, ℕ, ◌+◌, ◌-◌, ◌*◌, ◌^◌, ◌≤◌, ◌<◌, eqb, length, take, Option, MatchOption}
 use Rattle.rings.specs.declared.Ring.{Ring}
 use Rattle.rings.specs.Keys.{cost_at, free_at}
 use Rattle.rings.specs.Parts.{part}
@@ -16,6 +16,10 @@ row_at work at size r = part work (at + r * size) size
 unfoldable pub best_rows : (g : Ring) (table work : List ℕ) (at size to count layouts : ℕ) → Best
 best_rows g table work at size to count layouts =
     best_of (λ (r : ℕ). cost_at g table (row_at work at size r)) (λ (r : ℕ). is_free (row_at work to count r)) g.n layouts
+
+-- the best b, where anything was found: `nothing` costs 2^64 - 1
+abbrev pub Found : Option Best → (b : Best) → Type 0
+Found r b = MatchOption r (b.cost ≡ 2 ^ 64 - 1) (λ f. (f ≡ b) × (f.cost ≢ 2 ^ 64 - 1))
 
 -- how many words hold n bits
 pub record FreeWords (n count : ℕ) : Type 0 where

@@ -5,10 +5,12 @@ ghost use Rattle.rings.specs.Keys.{cost_at};
 ghost use Rattle.rings.specs.Parts.{part};
 ghost use Rattle.best.specs.Best.{best_from};
 ghost use Rattle.search.specs.Slots.{Unused};
+ghost use Rattle.search.specs.Rows.{Found};
 ghost use Rattle.search.specs.Distinct.{is_distinct, better_distinct, best_distinct, KeyRow, FreeRow, AllRows};
 
-use best::Best;
+use crate::look::found;
 use best::price::cost;
+use best::{Best, NOTHING};
 use rings::Ring;
 use rings::place::fits;
 
@@ -30,15 +32,8 @@ fn better_distinct(
     ensures { (result ≡ better_distinct g table.now start (part work.old a size) r j best) × (work.new ≡ work.old) }
 {
     let c = cost(g, table, &work[a..a + size], j);
-    if best.cost <= c {
-        return best;
-    }
-    if fits(g, work, a, size, start, j) {
-        return Best {
-            cost: c,
-            r: r,
-            j: j,
-        };
+    if c < best.cost && fits(g, work, a, size, start, j) {
+        return Best { cost: c, r, j };
     }
     best
 }
@@ -63,11 +58,12 @@ fn distinct_word(
     ensures { (result ≡ best_from (cost_at g table.now (part work.old a size)) (is_distinct g start (part work.old a size) (part work.old f count)) r before (64 * w) 64) × (work.new ≡ work.old) }
 {
     let mut best = before;
+    // A walk from one to one of the word counts no index.
     let mut left = work[f + w];
     while left != 0 {
         let j = 64 * w + u64::trailing_zeros(left) as usize;
         best = better_distinct(g, table, work, a, size, start, r, j, best);
-        left = left & (left - 1);
+        left &= left - 1;
     }
     best
 }
@@ -90,15 +86,13 @@ fn distinct_layout(
     ensures { (result ≡ best_from (cost_at g table.now (part work.old a size)) (is_distinct g start (part work.old a size) (part work.old f count)) r before 0 g.n) × (work.new ≡ work.old) }
 {
     let mut best = before;
-    let mut w = 0;
-    while w < count {
+    for w in 0..count {
         best = distinct_word(g, table, work, a, size, start, f, count, w, r, best);
-        w += 1;
     }
     best
 }
 
-// The best of all layouts: layout r has the `size` keys at work[at + r size..] and the `count` free words at work[to + r count..]. Nothing changes.
+// The best of all layouts, where one was found: layout r has the `size` keys at work[at + r size..] and the `count` free words at work[to + r count..]. Nothing changes.
 pub fn best_distinct(
     g: Ring,
     table: &[u32],
@@ -109,23 +103,15 @@ pub fn best_distinct(
     to: usize,
     count: usize,
     layouts: usize,
-) -> Best
+) -> Option<Best>
     requires { AllRows g table.now work.old at size start to count layouts }
-    ensures { (result ≡ best_distinct g table.now work.old at size start to count layouts) × (work.new ≡ work.old) }
+    ensures { Found result (best_distinct g table.now work.old at size start to count layouts) × (work.new ≡ work.old) }
 {
-    let mut best = Best {
-        cost: u64::MAX,
-        r: 0,
-        j: 0,
-    };
-    let mut a = at;
-    let mut f = to;
-    let mut r = 0;
-    while r < layouts {
+    let mut best = NOTHING;
+    for r in 0..layouts {
+        let a = at + r * size;
+        let f = to + r * count;
         best = distinct_layout(g, table, work, a, size, start, f, count, r, best);
-        a += size;
-        f += count;
-        r += 1;
     }
-    best
+    found(best)
 }

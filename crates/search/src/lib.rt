@@ -48,16 +48,16 @@ fn search_distinct(
     if has_equal(keys, &mut work[mid..to]) {
         return 0;
     }
-    let best = best_distinct(ring, table, work, at, size, start, to, count, layouts);
-    if best.cost == u64::MAX {
+    let Some(best) = best_distinct(ring, table, work, at, size, start, to, count, layouts) else {
         return 0;
-    }
+    };
     let a = at + best.r * size;
     settle(ring, work, a, size, start, best.j, bitmap);
     seed_of(ring, layouts, best.r, best.j)
 }
 
-// The seed of bucket b, whose hashes are `keys`; its slots are marked in the ring and in the bitmap. 0 where no seed fits, and then nothing is marked.
+// The seed of bucket b, whose hashes are `keys`; its slots are marked in the ring and in the bitmap. Where no seed fits nothing is marked, and it is 0: by
+// the format the seed of a bucket without slots.
 pub fn search(
     g: Geometry,
     ring: Ring,
@@ -79,10 +79,9 @@ pub fn search(
     let mid = at + z * layouts;
     let to = at + z * (layouts + 2);
     let total = prepare(g, ring, keys, start, work, at, to, count);
-    let best = best_free(ring, table, work, at, size, to, count, layouts, total);
-    if best.cost == u64::MAX {
+    let Some(best) = best_free(ring, table, work, at, size, to, count, layouts, total) else {
         return 0;
-    }
+    };
     let a = at + best.r * size;
     if settle(ring, work, a, size, start, best.j, bitmap) {
         return seed_of(ring, layouts, best.r, best.j);

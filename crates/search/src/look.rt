@@ -5,11 +5,11 @@ ghost use Rattle.rings.specs.Parts.{part};
 ghost use Rattle.best.specs.Prices.{best_free};
 ghost use Rattle.best.specs.Kept.{Kept};
 ghost use Rattle.best.specs.Looking.{Looking};
-ghost use Rattle.search.specs.Rows.{FreeWords};
+ghost use Rattle.search.specs.Rows.{FreeWords, Found};
 
-use best::Best;
 use best::all::best_all;
 use best::many::best_many;
+use best::{Best, NOTHING};
 use rings::Ring;
 
 // How many words hold the free bits of a layout.
@@ -17,16 +17,26 @@ pub fn free_words(g: Ring) -> usize
     requires { Shape g }
     ensures { FreeWords g.n result }
 {
-    let n = g.n;
-    if n < 64 {
-        return 1;
-    }
-    n / 64
+    (g.n / 64).max(1)
 }
 
-// The best free rotation. Layout r has the `size` keys at work[at + r size..] and the `count` free words at work[to + r count..]; the words behind the last of
-// these are scratch, and `total` rotations are free. Where these are few all of them are priced, else the first free one of each segment between wrap
-// points.
+// With at most so many free rotations all of them are priced.
+const FEW: u64 = 32;
+
+// The best, where anything was found.
+pub fn found(best: Best) -> Option<Best>
+    ensures { Found result best }
+{
+    if best.cost == NOTHING.cost {
+        None
+    } else {
+        Some(best)
+    }
+}
+
+// The best free rotation, where one is free. Layout r has the `size` keys at work[at + r size..] and the `count` free words at work[to + r count..]; the
+// words behind the last of these are scratch, and `total` rotations are free. Where these are few all of them are priced, else the first free one of each
+// segment between wrap points.
 pub fn best_free(
     g: Ring,
     table: &[u32],
@@ -37,20 +47,16 @@ pub fn best_free(
     count: usize,
     layouts: usize,
     total: u64,
-) -> Best
+) -> Option<Best>
     requires { Looking g table.now work.old at size to count layouts total }
-    ensures { (result ≡ best_free g table.now (part work.old at (layouts * size)) size (part work.old to (layouts * count)) count layouts) × Kept (to + layouts * count) work.old work.new }
+    ensures { Found result (best_free g table.now (part work.old at (layouts * size)) size (part work.old to (layouts * count)) count layouts) × Kept (to + layouts * count) work.old work.new }
 {
-    if total == 0 {
-        return Best {
-            cost: u64::MAX,
-            r: 0,
-            j: 0,
-        };
+    match total {
+        0 => None,
+        1..=FEW => found(best_all(g, table, work, at, size, to, count, layouts, total)),
+        _ => {
+            let up = to + layouts * count;
+            found(best_many(g, table, work, at, size, to, count, up, layouts))
+        }
     }
-    if total <= 32 {
-        return best_all(g, table, work, at, size, to, count, layouts, total);
-    }
-    let up = to + layouts * count;
-    best_many(g, table, work, at, size, to, count, up, layouts)
 }

@@ -2,8 +2,9 @@
 ghost use Rattle.ring_keys.specs.Gathered.{Gathered};
 ghost use Rattle.search.specs.Preparing.{Preparing};
 
-use crate::usual::{literal, literal_ring, usual};
+use crate::usual::literal_ring;
 use geometry::shape::Geometry;
+use geometry::usual::{literal, usual};
 use ring_keys::fill::fill_keys;
 use ring_keys::gather::gather;
 use rings::Ring;
@@ -27,8 +28,7 @@ pub fn prepare(
     if usual(g) {
         return gather::<true>(literal(g), literal_ring(ring), keys, start, work, at, to);
     }
-    let n = ring.n;
-    if n <= 64 {
+    if ring.n <= 64 {
         return gather::<false>(g, ring, keys, start, work, at, to);
     }
     fill_keys(g, keys, start, work, at);

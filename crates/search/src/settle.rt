@@ -23,16 +23,14 @@ fn mark_both(
     requires { Settling g work.old a size start j bitmap.old }
     ensures { MarkedBoth g work.old bitmap.old (part work.old a size) start j size result work.new bitmap.new }
 {
-    let mut i = 0;
-    while i < size {
+    for i in 0..size {
         let p = slot_of(g, work[a + i], j, start);
         if !take_slot(g, work, p) {
             return i;
         }
         words::set_bit(bitmap, p);
-        i += 1;
     }
-    i
+    size
 }
 
 // The same; the default shape's numbers are literals.
@@ -69,9 +67,7 @@ fn unmark_both(
     requires count_le_size { count ≤ size }
     ensures { (work.new ≡ unmarked_to g work.old (part work.old a size) start j count) × (bitmap.new ≡ cleared_to g bitmap.old (part work.old a size) start j count) }
 {
-    let mut i = count;
-    while 0 < i {
-        i -= 1;
+    for i in (0..count).rev() {
         let p = slot_of(g, work[a + i], j, start);
         unmark(g, work, p);
         words::clear_bit(bitmap, p);
@@ -106,7 +102,8 @@ pub fn seed_of(g: Ring, layouts: usize, r: usize, j: usize) -> usize
     ensures { SeedIs g.n layouts r j result }
 {
     if r + j == 0 {
-        return g.n * layouts;
+        g.n * layouts
+    } else {
+        j * layouts + r
     }
-    j * layouts + r
 }

@@ -6,15 +6,13 @@ fn main() {
     let mut buffer = io::large_buffer();
     let mut scan = list_input::start();
     // A proved loop has to end: no input takes this many reads.
-    let mut turns = u64::MAX;
-    while turns > 0 {
+    for _ in 0..u64::MAX {
         let n = io::read_full(0, &mut buffer);
         scan = list_input::feed(scan, &mut numbers, &buffer[..n]);
         // Less than the buffer holds: the input ended.
         if n < buffer.len() {
             break;
         }
-        turns -= 1;
     }
     let mut out = io::large_buffer();
     let end = listing::finish(scan, &numbers, &mut out);

@@ -36,19 +36,13 @@ pub fn next_set(bits: &[u64], begin: usize, end: usize) -> usize
     requires { (begin ≤ end) × (end ≤ 64 * length bits.now) }
     ensures { (result ≡ next_set bits.now begin end) × (begin ≤ result) × (result ≤ end) }
 {
-    if begin == end {
-        return end;
-    }
-    let last = (end - 1) / 64;
-    let mut w = begin / 64;
-    let mut word = bits[w] & (!0u64 << (begin % 64));
-    while word == 0 {
-        if w >= last {
-            return end;
+    let mut mask = !0u64 << (begin % 64);
+    for w in begin / 64..end.div_ceil(64) {
+        let word = bits[w] & mask;
+        if word != 0 {
+            return end.min(w * 64 + word.trailing_zeros() as usize);
         }
-        w += 1;
-        word = bits[w];
+        mask = !0;
     }
-    let j = w * 64 + u64::trailing_zeros(word) as usize;
-    if j < end { j } else { end }
+    end
 }

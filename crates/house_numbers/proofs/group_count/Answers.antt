@@ -1,17 +1,10 @@
 -- `group_count` counts the bytes of a number: those counted and those of the rest are at each turn all of them, and one more. Assumes nothing.
 use Rattle.house_numbers.specs.EncodeLaws.{length_small, length_large, length_pos, length_ten}
-use mathlib.Core.Path.{refl}
 use native.Mathlib.Omega.{arith}
 use Rattle.house_numbers.proofs.group_count.Goals as goal
 
-pub loop-rest-init : goal.loop-rest-init
-loop-rest-init c = (refl, omega arith)
-
 pub overflow_add-count : goal.overflow_add-count
 overflow_add-count c = omega (arith, length_pos c.loop-rest.rest, length_ten c.args.value)
-
-pub loop-rest-smaller : goal.loop-rest-smaller
-loop-rest-smaller c = omega arith
 
 pub loop-rest-preserved : goal.loop-rest-preserved
 loop-rest-preserved c = omega (arith, length_large c.loop-rest.rest (omega arith) c.loop-rest-test.true)

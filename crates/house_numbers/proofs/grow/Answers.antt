@@ -16,12 +16,6 @@ returns-then-group-value c =
     let a = c.args in
     grown_wide a.part a.byte (omega arith) (value_wide a.part a.byte (omega arith) c.if-group-value.true)
 
-pub overflow_add-sum : goal.overflow_add-sum
-overflow_add-sum c =
-    let a = c.args in
-    let f : a.part.value < 2 ^ 64 = omega arith in
-    rw (value_is a.part a.byte f c.if-group-value.false) (record { fits = value_fits a.part a.byte f c.if-group-value.false })
-
 pub returns-then-byte-lt128 : goal.returns-then-byte-lt128
 returns-then-byte-lt128 c =
     let a = c.args in

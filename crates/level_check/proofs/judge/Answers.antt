@@ -18,9 +18,9 @@ returns-in-Some-clause-answer c =
 pub returns-then-not-same-clause-answer : goal.returns-then-not-same-clause-answer
 returns-then-not-same-clause-answer c =
     let a = c.args in
-    rw c.into-then-not-same.ensures (says_30 a.g.settings a.hashes.now a.begins.now a.seeds.now a.bitmap.now c.requires.seeds_len.0 c.power_of_two.ensures.0 c.seeds_bad.ensures c.if-seeds_bad.false c.in_default.ensures c.eq-same.ensures c.if-not-same.true)
+    rw c.into-then-not-same.ensures (says_30 a.g.settings a.hashes.now a.begins.now a.seeds.now a.bitmap.now c.requires.seeds_len.0 c.power_of_two.ensures.0 c.seeds_bad.ensures c.if-seeds_bad.false c.in_default.ensures c.if-not-same.ensures)
 
 pub returns-clause-answer : goal.returns-clause-answer
 returns-clause-answer c =
     let a = c.args in
-    says_accepted a.g.settings a.hashes.now a.begins.now a.seeds.now a.bitmap.now c.requires.seeds_len.0 c.power_of_two.ensures.0 c.seeds_bad.ensures c.if-seeds_bad.false c.in_default.ensures c.eq-same.ensures c.if-not-same.false
+    says_accepted a.g.settings a.hashes.now a.begins.now a.seeds.now a.bitmap.now c.requires.seeds_len.0 c.power_of_two.ensures.0 c.seeds_bad.ensures c.if-seeds_bad.false c.in_default.ensures c.if-not-same.ensures

@@ -12,8 +12,10 @@ unfolding named_by
 returns-then-not-scan_ends c =
     let a = c.args in
     let p = c.refused_text.ensures in
+    let value = rw c.into.ensures at p.value.0 in
+    let after = rw c.into.ensures at p.out_after in
     record {
-      finished = finished_by a.scan a.numbers.now a.out.now _ _ _ p.value.0 p.out_after (unformed_text a.scan a.numbers.now (sym c.scan_ends.ensures ∙ c.if-not-scan_ends.true));
+      finished = finished_by a.scan a.numbers.now a.out.now _ _ _ value after (unformed_text a.scan a.numbers.now (sym c.scan_ends.ensures ∙ c.if-not-scan_ends.true));
       upper_bound = omega (arith, p.value.1);
     }
 
@@ -22,8 +24,10 @@ unfolding named_by
 returns-then-count-gt205 c =
     let a = c.args in
     let p = c.refused_text-then-count-gt205.ensures in
+    let value = rw c.into-then-count-gt205.ensures at p.value.0 in
+    let after = rw c.into-then-count-gt205.ensures at p.out_after in
     record {
-      finished = finished_by a.scan a.numbers.now a.out.now _ _ _ p.value.0 p.out_after (many_text a.scan a.numbers.now (sym c.scan_ends.ensures ∙ c.if-not-scan_ends.false) c.if-count-gt205.true);
+      finished = finished_by a.scan a.numbers.now a.out.now _ _ _ value after (many_text a.scan a.numbers.now (sym c.scan_ends.ensures ∙ c.if-not-scan_ends.false) c.if-count-gt205.true);
       upper_bound = omega (arith, p.value.1);
     }
 

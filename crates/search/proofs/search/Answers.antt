@@ -1,7 +1,6 @@
 -- The ring keys and free words are filled in and the best free rotation is looked for; where it is placed its seed is the bucket's, and where two keys meet
 -- the pass over all free rotations goes on from the same words. Assumes nothing.
-use mathlib.Core.Path.{◌∙◌}
-use native.Mathlib.Omega.{arith}
+use Rattle.std.proofs.Common.{refl, ◌∙◌, arith}
 use Rattle.rings.specs.RingLaws.{n_le}
 use Rattle.search.specs.LaidLaws.{laid_rows, laid_settling, best_in, best_blank, best_zero, best_placed}
 use Rattle.search.specs.ReadyLaws.{ready_shape, bucket_in, layouts_few, layouts_room, map_fits, code_preparing, code_looking, code_laid, searched_since}
@@ -36,68 +35,61 @@ overflow_add-to-2 c = let q = c.requires.ready in omega (arith, map_fits q c.fre
 pub prepare-total-requires : goal.prepare-total-requires
 prepare-total-requires c = code_preparing c.requires.ready c.first-start.ensures.0 c.free_words-count.ensures
 
-pub best_free-best-requires : goal.best_free-best-requires
-best_free-best-requires c = let q = c.requires.ready in
+pub best_free-requires : goal.best_free-requires
+best_free-requires c = let q = c.requires.ready in
     let es = c.first-start.ensures.0 in
     let w = c.free_words-count.ensures in
     let k = c.prepare-total.ensures in
     code_looking q es w k
 
-pub returns-then-best : goal.returns-then-best
-returns-then-best c = λ i marked first q. let es = c.first-start.ensures.0 in
-    let k = c.prepare-total.ensures in
-    let l = c.best_free-best.ensures in
-    let d = code_laid q es c.free_words-count.ensures k l in
-    best_zero d.laid d.is c.args.work.now d.len (λ n. (c.type_inv.table n).fits) c.if-best.true
+pub returns-in_default : goal.returns-in_default
+returns-in_default c = λ i marked first q.
+    let none = rw c.in_default.is at c.best_free.ensures in
+    let d = code_laid q c.first-start.ensures.0 c.free_words-count.ensures c.prepare-total.ensures refl none.1 in
+    best_zero d.laid d.is c.args.work.now d.len (λ n. (c.type_inv.table n).fits) none.0
 
 pub overflow_mul-a : goal.overflow_mul-a
 overflow_mul-a c = let q = c.requires.ready in
     let k = c.prepare-total.ensures in
-    let l = c.best_free-best.ensures in
-    let d = code_laid q c.first-start.ensures.0 c.free_words-count.ensures k l in
-    omega (arith, ((laid_rows d.laid).keys _ (best_in d.laid d.is c.if-best.false).0).room, d.len)
+    let d = code_laid q c.first-start.ensures.0 c.free_words-count.ensures k c.in-Some.ensures.0.0 c.in-Some.ensures.1 in
+    omega (arith, ((laid_rows d.laid).keys _ (best_in d.laid d.is c.in-Some.ensures.0.1).0).room, d.len)
 
 pub overflow_add-a : goal.overflow_add-a
 overflow_add-a c = let q = c.requires.ready in
     let k = c.prepare-total.ensures in
-    let l = c.best_free-best.ensures in
-    let d = code_laid q c.first-start.ensures.0 c.free_words-count.ensures k l in
-    omega (arith, ((laid_rows d.laid).keys _ (best_in d.laid d.is c.if-best.false).0).room, d.len)
+    let d = code_laid q c.first-start.ensures.0 c.free_words-count.ensures k c.in-Some.ensures.0.0 c.in-Some.ensures.1 in
+    omega (arith, ((laid_rows d.laid).keys _ (best_in d.laid d.is c.in-Some.ensures.0.1).0).room, d.len)
 
 pub settle-requires : goal.settle-requires
 settle-requires c =
     let q = c.requires.ready in
-    let l = c.best_free-best.ensures in
-    let f = c.best_free-best.result in
-    let d = code_laid q c.first-start.ensures.0 c.free_words-count.ensures c.prepare-total.ensures l in
-    let n = best_in d.laid d.is c.if-best.false in
+    let f = c.in-Some.best in
+    let d = code_laid q c.first-start.ensures.0 c.free_words-count.ensures c.prepare-total.ensures c.in-Some.ensures.0.0 c.in-Some.ensures.1 in
+    let n = best_in d.laid d.is c.in-Some.ensures.0.1 in
     record {
       settling = laid_settling d.laid f.r f.j n.0 n.1;
-      blank = best_blank d.laid d.is c.if-best.false;
+      blank = best_blank d.laid d.is c.in-Some.ensures.0.1;
     }
 
 pub seed_of-requires : goal.seed_of-requires
 seed_of-requires c = let q = c.requires.ready in
-    let l = c.best_free-best.ensures in
-    let d = code_laid q c.first-start.ensures.0 c.free_words-count.ensures c.prepare-total.ensures l in
-    let n = best_in d.laid d.is c.if-best.false in
+    let d = code_laid q c.first-start.ensures.0 c.free_words-count.ensures c.prepare-total.ensures c.in-Some.ensures.0.0 c.in-Some.ensures.1 in
+    let n = best_in d.laid d.is c.in-Some.ensures.0.1 in
     (n.0, n.1, layouts_few q, n_le c.args.ring (ready_shape q))
 
 pub returns-then-settle : goal.returns-then-settle
 returns-then-settle c = λ i marked first q. let k = c.prepare-total.ensures in
-    let l = c.best_free-best.ensures in
-    let d = code_laid q c.first-start.ensures.0 c.free_words-count.ensures k l in
-    best_placed d.laid d.is c.args.work.now d.len c.if-best.false c.settle.ensures c.if-settle.true c.seed_of.ensures
+    let d = code_laid q c.first-start.ensures.0 c.free_words-count.ensures k c.in-Some.ensures.0.0 c.in-Some.ensures.1 in
+    best_placed d.laid d.is c.args.work.now d.len c.in-Some.ensures.0.1 c.settle.ensures c.if-settle.true c.seed_of.ensures
 
 pub search_distinct-requires : goal.search_distinct-requires
 search_distinct-requires c = let p = c.requires in
     let n = c.settle.ensures.no c.if-settle.false in
-    let d = code_laid p.ready c.first-start.ensures.0 c.free_words-count.ensures c.prepare-total.ensures c.best_free-best.ensures in
+    let d = code_laid p.ready c.first-start.ensures.0 c.free_words-count.ensures c.prepare-total.ensures c.in-Some.ensures.0.0 c.in-Some.ensures.1 in
     rw (n.0, n.1) (record { i = p.i; marked = p.marked; first = p.first; b = c.args.b; laid = d.laid })
 
 pub returns : goal.returns
 returns c = λ i marked first q. let k = c.prepare-total.ensures in
-    let l = c.best_free-best.ensures in
     let n = c.settle.ensures.no c.if-settle.false in
-    let d = code_laid q c.first-start.ensures.0 c.free_words-count.ensures k l in
+    let d = code_laid q c.first-start.ensures.0 c.free_words-count.ensures k c.in-Some.ensures.0.0 c.in-Some.ensures.1 in
     searched_since c.args.work.now (c.settle.auto.work ∙ d.len) (c.search_distinct.ensures i marked first c.args.b (rw (n.0, n.1) d.laid))

@@ -1,14 +1,7 @@
 -- The free words listed behind themselves are what the pass asks for, and its best is the best free rotation. Assumes nothing.
-use native.Mathlib.Omega.{arith}
 use Rattle.best.specs.Kept.{kept_on}
 use Rattle.best.proofs.AllLaws.{shift_few, pass_of, best_of_lem}
 use Rattle.best.proofs.all.best_all.Goals as goal
-
-pub overflow_cast-shift : goal.overflow_cast-shift
-overflow_cast-shift c = omega (arith, shift_few c.requires)
-
-pub overflow_add-shift : goal.overflow_add-shift
-overflow_add-shift c = omega (arith, shift_few c.requires)
 
 pub best_sized-best-requires : goal.best_sized-best-requires
 best_sized-best-requires c = let l = c.list_words.ensures in pass_of c.requires (λ k. (c.slice_known-1.given k).fits) l.0 l.1

@@ -1,38 +1,21 @@
 -- The sum so far is that of the keys passed (`sum_to`), at step j 2^t and mask (n - 1) 2^t; each entry is one of the table's, and no sum of fewer than
--- 2^32 entries of 32 bits reaches 2^64 - 1. The measure is the number of keys left. Assumes nothing.
+-- 2^32 entries of 32 bits reaches 2^64 - 1.
 use mathlib.Core.Path.{◌≡◌, sym, ◌∙◌}
 use Prim.Native.Nat.{◌-◌, ◌*◌, ◌%◌, ◌^◌}
 use native.Mathlib.Omega.{arith}
 use lib.ListN.{length}
-use Rattle.rings.specs.RingLaws.{n_pos}
-use Rattle.best.specs.PriceLaws.{sum_none, sum_more, sum_cost, sum_fits, code_fits, code_in}
+use Rattle.best.specs.PriceLaws.{sum_none, sum_more, sum_cost}
 use Rattle.best.proofs.price.cost.Goals as goal
 
-pub overflow_sub-mask : goal.overflow_sub-mask
-overflow_sub-mask c = n_pos c.args.g c.requires.shape
+pub loop-d-init : goal.loop-d-init
+loop-d-init c = (sym (sum_none _ _ _ _), omega arith)
 
-pub loop-i-init : goal.loop-i-init
-loop-i-init c = (omega arith, sym (sum_none _ _ _ _), omega arith)
-
-pub overflow_add-e : goal.overflow_add-e
-overflow_add-e c = record { fits = sum_fits c.args.g c.requires.shape c.args.table.now c.args.keys.now c.args.j c.requires.j_bound c.requires.prices c.loop-i.i c.loop-i-test.true }
-
-pub overflow_add-e-in-loop-i : goal.overflow_add-e-in-loop-i
-overflow_add-e-in-loop-i c = record { fits = code_fits c.args.g c.requires.shape c.args.table.now c.args.keys.now c.args.j c.requires.j_bound c.requires.prices c.loop-i.i c.loop-i-test.true }
-
-pub offset_bounds-table-e : goal.offset_bounds-table-e
-offset_bounds-table-e c = let l = code_in c.args.g c.requires.shape c.args.table.now c.args.keys.now c.args.j c.requires.j_bound c.requires.prices c.loop-i.i c.loop-i-test.true in omega (arith, l)
-
-pub bounds-table-e : goal.bounds-table-e
-bounds-table-e c = code_in c.args.g c.requires.shape c.args.table.now c.args.keys.now c.args.j c.requires.j_bound c.requires.prices c.loop-i.i c.loop-i-test.true
-
-pub loop-i-preserved : goal.loop-i-preserved
-loop-i-preserved c = (
-  omega arith,
-  omega (arith, sum_more c.args.table.now c.args.keys.now (c.args.j * 2 ^ c.args.g.t % 2 ^ 64) ((c.args.g.n - 1) * 2 ^ c.args.g.t % 2 ^ 64) c.loop-i.i),
+pub loop-d-preserved : goal.loop-d-preserved
+loop-d-preserved c = (
+  omega (arith, sum_more c.args.table.now c.args.keys.now (c.args.j * 2 ^ c.args.g.t % 2 ^ 64) ((c.args.g.n - 1) * 2 ^ c.args.g.t % 2 ^ 64) c.loop-d.d-index),
   omega arith,
 )
 
 pub returns : goal.returns
-returns c = let e : c.loop-i.i ≡ length c.args.keys.now = omega arith in
-    (rw e at c.loop-i.invariant.1 ∙ sum_cost c.args.g c.requires.shape c.args.table.now c.args.keys.now c.args.j c.requires.j_bound, omega (arith, c.requires.prices.size))
+returns c = let e : c.loop-d.d-index ≡ length c.args.keys.now = omega arith in
+    (rw e at c.loop-d.invariant.0 ∙ sum_cost c.args.g c.requires.shape c.args.table.now c.args.keys.now c.args.j c.requires.j_bound, omega (arith, c.requires.prices.size))

@@ -1,13 +1,9 @@
 -- The sum so far is that of the keys passed (`sum_to`), at step j 2^t and mask (n - 1) 2^t; each entry is one of the table's, and no sum of fewer than
--- 2^32 entries of 32 bits reaches 2^64 - 1. The measure is the number of keys left. Assumes nothing.
+-- 2^32 entries of 32 bits reaches 2^64 - 1.
 use mathlib.Core.Path.{◌≡◌}
-use Prim.Native.Nat.{◌≤◌, ◌-◌, ◌*◌}
-use lib.ListN.{length}
+use Prim.Native.Nat.{◌≤◌, ◌*◌}
 use Rattle.best.specs.PriceLaws.{sum_to}
 use Rattle.best.proofs.price.cost.Given as goal
 
-abbrev pub invariant-loop-i : goal.invariant-loop-i
-invariant-loop-i l = (l.i ≤ length l.keys) × (l.sum ≡ sum_to l.table l.keys l.step l.mask l.i) × (l.sum ≤ 4294967295 * l.i)
-
-abbrev pub decreases-loop-i : goal.decreases-loop-i
-decreases-loop-i l = length l.keys - l.i
+abbrev pub invariant-loop-d : goal.invariant-loop-d
+invariant-loop-d l = (l.sum ≡ sum_to l.table l.keys l.step l.mask l.d-index) × (l.sum ≤ 4294967295 * l.d-index)

@@ -1,10 +1,6 @@
--- The set has the points of the keys below i (`Pointing`), which lie below the set and stay. The measure is the number of keys left. Assumes nothing.
-use Prim.Native.Nat.{◌-◌}
+-- The set has the points of the keys below i (`Pointing`), which lie below the set and stay.
 use Rattle.best.specs.WrapLaws.{Pointing}
 use Rattle.best.proofs.wraps.fill_wraps.Given as goal
 
 abbrev pub invariant-loop-i : goal.invariant-loop-i
 invariant-loop-i l = Pointing l.g l.initial.work l.at l.size l.up l.count l.i l.work
-
-abbrev pub decreases-loop-i : goal.decreases-loop-i
-decreases-loop-i l = l.size - l.i

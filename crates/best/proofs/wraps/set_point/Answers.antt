@@ -1,9 +1,10 @@
--- A key at place 0 has no wrap point; any other has the bit n - x, which is one of the set's. Assumes nothing.
-use Rattle.best.specs.WrapLaws.{point_none, point_set}
+-- A key at place 0 has no wrap point; any other has the bit n - x, which is one of the set's.
+use Rattle.std.proofs.Common.{arith}
+use Rattle.best.proofs.Stored.{filled_none, filled_point}
 use Rattle.best.proofs.wraps.set_point.Goals as goal
 
-pub returns-then-x-eq0 : goal.returns-then-x-eq0
-returns-then-x-eq0 c = point_none _ _ _ _ _ c.place_of-x.ensures c.if-x-eq0.true
+pub returns-then-x-ne0 : goal.returns-then-x-ne0
+returns-then-x-ne0 c = filled_point _ _ _ _ _ c.place_of-x.ensures c.if-x-ne0.true (omega arith) c.requires.count_in_bounds.0 c.set_bit.ensures
 
-pub returns : goal.returns
-returns c = point_set _ _ _ _ _ c.place_of-x.ensures c.if-x-eq0.false c.requires.count_in_bounds.1
+pub returns-else-x-ne0 : goal.returns-else-x-ne0
+returns-else-x-ne0 c = filled_none _ _ _ _ _ c.place_of-x.ensures c.if-x-ne0.false

@@ -9,19 +9,19 @@ use Rattle.exports.proofs.asking.fill_in.Goals as goal
 pub bounds-slots-i : goal.bounds-slots-i
 bounds-slots-i c =
     let a = c.args in
-    omega (arith, ap length c.loop-i.invariant.1, filled_length (slot_of a.g.settings a.seeds.now) a.hashes.now a.slots.now c.requires.slots_len c.loop-i.i c.loop-i.invariant.0)
+    omega (arith, ap length c.loop-i.invariant, filled_length (slot_of a.g.settings a.seeds.now) a.hashes.now a.slots.now c.requires.slots_len c.loop-i.i (omega arith))
 
 pub loop-i-preserved : goal.loop-i-preserved
 loop-i-preserved c =
     let a = c.args in
-    (omega arith, rw (c.loop-i.invariant.1, c.slot_in.ensures) (filled_more (slot_of a.g.settings a.seeds.now) a.hashes.now a.slots.now c.requires.slots_len c.loop-i.i (omega arith)))
+    rw (c.loop-i.invariant, c.slot_in.ensures) (filled_more (slot_of a.g.settings a.seeds.now) a.hashes.now a.slots.now c.requires.slots_len c.loop-i.i (omega arith))
 
 pub shape_of-slots : goal.shape_of-slots
 shape_of-slots c =
     let a = c.args in
-    ap length c.loop-i.invariant.1 ∙ filled_length (slot_of a.g.settings a.seeds.now) a.hashes.now a.slots.now c.requires.slots_len c.loop-i.i c.loop-i.invariant.0
+    ap length c.loop-i.invariant ∙ filled_length (slot_of a.g.settings a.seeds.now) a.hashes.now a.slots.now c.requires.slots_len c.loop-i.i (omega arith)
 
 pub returns : goal.returns
 returns c =
     let a = c.args in
-    c.loop-i.invariant.1 ∙ filled_all (slot_of a.g.settings a.seeds.now) a.hashes.now a.slots.now c.requires.slots_len c.loop-i.i (omega arith)
+    c.loop-i.invariant ∙ filled_all (slot_of a.g.settings a.seeds.now) a.hashes.now a.slots.now c.requires.slots_len c.loop-i.i (omega arith)

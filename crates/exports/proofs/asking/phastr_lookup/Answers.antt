@@ -1,17 +1,23 @@
 -- Each arm tells what `lookup` says of its variant, and `lookup` says the answer.
-use mathlib.Core.Path.{refl}
-use Rattle.rules.specs.Answers.{said_looked}
-use Rattle.exports.specs.Told.{number_told, slot_told, slot_or}
+use mathlib.Core.Path.{ap, ◌∙◌}
+use Rattle.rules.specs.Answers.{Said, said_looked}
+use Rattle.exports.specs.Told.{number_told, slot_told}
+use Rattle.exports.proofs.Results.{found_number, found_slot}
 use Rattle.exports.proofs.asking.phastr_lookup.Goals as goal
 
-pub returns-in-Bumped : goal.returns-in-Bumped
-unfolding said_looked number_told slot_told slot_or
-returns-in-Bumped c = let e = c.in-Bumped.ensures in record { answer = rw (← e) refl; found = rw (← e) refl }
+pub returns-in-Ok : goal.returns-in-Ok
+returns-in-Ok c =
+    let said = c.in-Ok.ensures in
+    rw (← c.settings_of.ensures) (record {
+      answer = found_number c.in-Ok.found ∙ ap number_told said;
+      found = c.unwrap_or.ensures ∙ found_slot c.in-Ok.found c.args.slot.now ∙ ap (λ (x : Said). slot_told x c.args.slot.now) said;
+    })
 
-pub returns-in-At : goal.returns-in-At
-unfolding said_looked number_told slot_told slot_or
-returns-in-At c = let e = c.in-At.ensures in record { answer = rw (← e) refl; found = rw (← e) refl }
-
-pub returns-in-Refused : goal.returns-in-Refused
+pub returns-in-Err : goal.returns-in-Err
 unfolding said_looked number_told slot_told
-returns-in-Refused c = let e = c.in-Refused.ensures in record { answer = rw (← e) refl; found = rw (← e) refl }
+returns-in-Err c =
+    let said = c.in-Err.ensures in
+    rw (← c.settings_of.ensures) (record {
+      answer = c.number.ensures ∙ ap number_told said;
+      found = ap (λ (x : Said). slot_told x c.args.slot.now) said;
+    })

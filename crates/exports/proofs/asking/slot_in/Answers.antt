@@ -1,18 +1,10 @@
--- The slot is what `lookup_in` says, which is no refusal.
-use mathlib.Core.Path.{ap}
-use Rattle.rules.specs.Answers.{Said, said_looked}
-use Rattle.exports.specs.Told.{slot_told, slot_or}
+-- The slot that `lookup_in` found, or BUMPED. Assumes nothing.
+use mathlib.Core.Path.{ap, ◌∙◌}
+use Rattle.exports.specs.Told.{slot_or}
 use Rattle.exports.specs.Positions.{slot_of}
+use Rattle.exports.proofs.Results.{slot_found}
 use Rattle.exports.proofs.asking.slot_in.Goals as goal
 
-pub returns-in-At : goal.returns-in-At
-unfolding said_looked slot_told slot_of slot_or
-returns-in-At c = ap (λ (said : Said). slot_told said 0) c.in-At.ensures
-
-pub returns-in-Bumped : goal.returns-in-Bumped
-unfolding said_looked slot_told slot_of slot_or
-returns-in-Bumped c = ap (λ (said : Said). slot_told said 0) c.in-Bumped.ensures
-
-pub returns-in-Refused : goal.returns-in-Refused
-unfolding said_looked
-returns-in-Refused c = let never = c.in-Refused.ensures in cc
+pub returns : goal.returns
+unfolding slot_of
+returns c = c.unwrap_or.ensures ∙ slot_found c.lookup_in.result ∙ ap slot_or c.lookup_in.ensures

@@ -3,9 +3,9 @@ use Rattle.exports.proofs.checking.phastr_check_level.Goals as goal
 
 pub returns : goal.returns
 returns c =
-    let s = c.check_level-matched.ensures in
-    record {
+    let s = c.check_level.ensures in
+    rw (← c.settings_of-s.ensures) (record {
       answer = rw s.answer at c.tell.ensures.answer;
       named = rw s.answer at c.tell.ensures.named;
       zeroed = s.scratch;
-    }
+    })

@@ -1,13 +1,14 @@
--- Each arm tells what `bucket_count` says of its variant, and `bucket_count` says the answer.
-use mathlib.Core.Path.{refl}
-use Rattle.rules.specs.Answers.{said_counted}
+-- What `bucket_count` says is told. Assumes nothing.
+use mathlib.Core.Path.{ap, ◌∙◌}
+use Rattle.rules.specs.Answers.{Said}
 use Rattle.exports.specs.Told.{number_told, value_told}
+use Rattle.exports.proofs.Results.{count_number, count_value}
 use Rattle.exports.proofs.sizing.phastr_bucket_count.Goals as goal
 
-pub returns-in-Buckets : goal.returns-in-Buckets
-unfolding said_counted number_told value_told
-returns-in-Buckets c = let e = c.in-Buckets.ensures in record { answer = rw (← e) refl; counted = rw (← e) refl }
-
-pub returns-in-Refused : goal.returns-in-Refused
-unfolding said_counted number_told value_told
-returns-in-Refused c = let e = c.in-Refused.ensures in record { answer = rw (← e) refl; counted = rw (← e) refl }
+pub returns : goal.returns
+returns c =
+    let said = c.bucket_count.ensures in
+    record {
+      answer = c.tell.ensures.number ∙ count_number c.bucket_count.result ∙ ap number_told said;
+      counted = c.tell.ensures.value ∙ count_value c.bucket_count.result c.args.count.now ∙ ap (λ (x : Said). value_told x c.args.count.now) said;
+    }

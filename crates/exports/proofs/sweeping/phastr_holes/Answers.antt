@@ -1,25 +1,15 @@
--- Each arm tells what `holes` says of its variant, and `holes` says the answer and leaves the buffer.
-use mathlib.Core.Path.{ap}
-use Rattle.rules.specs.Answers.{Said, said_listed}
+-- What `holes` says is told, and it leaves the buffer. Assumes nothing.
+use mathlib.Core.Path.{ap, ◌∙◌}
+use Rattle.rules.specs.Answers.{Said}
 use Rattle.exports.specs.Told.{number_told, value_told}
+use Rattle.exports.proofs.Results.{count_number, count_value}
 use Rattle.exports.proofs.sweeping.phastr_holes.Goals as goal
 
-pub returns-in-Holes : goal.returns-in-Holes
-unfolding said_listed number_told value_told
-returns-in-Holes c =
-    let said = c.in-Holes.ensures.answer in
+pub returns : goal.returns
+returns c =
+    let said = c.holes.ensures.answer in
     record {
-      answer = ap number_told said;
+      answer = c.tell.ensures.number ∙ count_number c.holes.result ∙ ap number_told said;
       buffer = c.holes.ensures.buffer;
-      counted = ap (λ (x : Said). value_told x c.args.count.now) said;
-    }
-
-pub returns-in-Refused : goal.returns-in-Refused
-unfolding said_listed number_told value_told
-returns-in-Refused c =
-    let said = c.in-Refused.ensures.answer in
-    record {
-      answer = ap number_told said;
-      buffer = c.holes.ensures.buffer;
-      counted = ap (λ (x : Said). value_told x c.args.count.now) said;
+      counted = c.tell.ensures.value ∙ count_value c.holes.result c.args.count.now ∙ ap (λ (x : Said). value_told x c.args.count.now) said;
     }

@@ -2,11 +2,12 @@
 use Rattle.level_file.proofs.FillLaws.{Filling}
 use Rattle.level_file.specs.Format.{not_below}
 use Rattle.level_file.specs.Reading.{numbers_at}
-use Prim.Native.Nat.{◌-◌, ◌≤◌}
+use Prim.Native.Nat.{◌-◌}
+use lib.ListN.{length}
+use mathlib.Core.Path.{◌≡◌}
 use Rattle.level_file.proofs.reading.read_seeds.Given as goal
 
-abbrev pub invariant-loop-i : goal.invariant-loop-i
-invariant-loop-i l = Filling (numbers_at l.bytes (not_below l.limit) l.count l.at) (numbers_at l.bytes (not_below l.limit) (l.count - l.i) l.place) l.initial.seeds l.seeds l.i × (l.i ≤ l.count)
-
-abbrev pub decreases-loop-i : goal.decreases-loop-i
-decreases-loop-i l = l.count - l.i
+abbrev pub invariant-loop-seed : goal.invariant-loop-seed
+invariant-loop-seed l =
+    (l.reader.bytes.now ≡ l.initial.reader.bytes.now)
+    × Filling (numbers_at l.initial.reader.bytes.now (not_below l.limit) (length l.initial.seeds) l.initial.reader.at) (numbers_at l.initial.reader.bytes.now (not_below l.limit) (length l.initial.seeds - l.seed-index) l.reader.at) l.seeds l.seed-index

@@ -2,12 +2,8 @@
 use Rattle.level_file.proofs.PutLaws.{Putting}
 use Rattle.level_file.specs.Format.{gaps_from}
 use Rattle.level_file.specs.Writing.{Climbs}
-use Prim.Native.Nat.{◌-◌, ◌≤◌}
-use lib.ListN.{length, drop}
+use lib.ListN.{drop}
 use Rattle.level_file.proofs.writing.put_holes.Given as goal
 
-abbrev pub invariant-loop-i : goal.invariant-loop-i
-invariant-loop-i l = Putting (gaps_from 0 l.holes) (gaps_from l.before (drop l.i l.holes)) l.initial.out l.out l.at l.place × Climbs l.before (drop l.i l.holes) × (l.i ≤ length l.holes)
-
-abbrev pub decreases-loop-i : goal.decreases-loop-i
-decreases-loop-i l = length l.holes - l.i
+abbrev pub invariant-loop-hole : goal.invariant-loop-hole
+invariant-loop-hole l = Putting (gaps_from 0 l.holes) (gaps_from l.before (drop l.hole-index l.holes)) l.initial.out l.out l.at l.place × Climbs l.before (drop l.hole-index l.holes)

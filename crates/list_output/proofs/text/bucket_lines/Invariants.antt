@@ -9,8 +9,4 @@ use Rattle.list_output.proofs.text.bucket_lines.Given as goal
 abbrev pub invariant-loop-b : goal.invariant-loop-b
 invariant-loop-b l =
     (Writing l.initial.out l.at (concat_map (bucket_line l.begins l.seeds) (below (length l.seeds))) l.out l.place (concat_map (bucket_line l.begins l.seeds) (count_from l.b (length l.seeds - l.b))))
-    × (l.b ≤ length l.seeds)
     × (l.place ≤ l.at + 70 * l.b)
-
-abbrev pub decreases-loop-b : goal.decreases-loop-b
-decreases-loop-b l = length l.seeds - l.b

@@ -2,12 +2,9 @@
 use Rattle.list_output.specs.Writing.{Writing}
 use Rattle.list_output.specs.Text.{hole_line}
 use Rattle.rules.specs.Lists.{concat_map}
-use lib.ListN.{length, drop}
-use Prim.Native.Nat.{◌+◌, ◌*◌, ◌-◌, ◌≤◌}
+use lib.ListN.{drop}
+use Prim.Native.Nat.{◌+◌, ◌*◌, ◌≤◌}
 use Rattle.list_output.proofs.text.hole_lines.Given as goal
 
-abbrev pub invariant-loop-i : goal.invariant-loop-i
-invariant-loop-i l = (Writing l.initial.out l.at (concat_map hole_line l.holes) l.out l.place (concat_map hole_line (drop l.i l.holes))) × (l.i ≤ length l.holes) × (l.place ≤ l.at + 26 * l.i)
-
-abbrev pub decreases-loop-i : goal.decreases-loop-i
-decreases-loop-i l = length l.holes - l.i
+abbrev pub invariant-loop-hole : goal.invariant-loop-hole
+invariant-loop-hole l = (Writing l.initial.out l.at (concat_map hole_line l.holes) l.out l.place (concat_map hole_line (drop l.hole-index l.holes))) × (l.place ≤ l.at + 26 * l.hole-index)

@@ -6,21 +6,21 @@ use mathlib.Core.Path.{ap, ◌∙◌}
 use native.Mathlib.Omega.{arith}
 use Rattle.list_output.proofs.text.refused_text.Goals as goal
 
-pub returns-in-Bucket : goal.returns-in-Bucket
-returns-in-Bucket c =
+pub returns-in-Some : goal.returns-in-Some
+returns-in-Some c =
     let a = c.args in
     let p = c.put_line.ensures in
-    let e = refused_bucket a.number _ a.named c.in-Bucket.is in
+    let e = refused_bucket _ _ c.number-number.ensures _ _ c.in-Some.is in
     record {
       value = (omega (arith, p.value.0, ap length e), omega (arith, p.value.1));
       out_after = p.out_after ∙ ap (sets a.out.now 0) e;
     }
 
-pub returns-in-NoBucket : goal.returns-in-NoBucket
-returns-in-NoBucket c =
+pub returns-in-None : goal.returns-in-None
+returns-in-None c =
     let a = c.args in
-    let p = c.put_line-in-NoBucket.ensures in
-    let e = refused_plain a.number a.named c.in-NoBucket.is in
+    let p = c.put_line-in-None.ensures in
+    let e = refused_plain _ _ c.number-number.ensures _ c.in-None.is in
     record {
       value = (omega (arith, p.value.0, ap length e), omega (arith, p.value.1));
       out_after = p.out_after ∙ ap (sets a.out.now 0) e;

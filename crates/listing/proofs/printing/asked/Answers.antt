@@ -45,10 +45,12 @@ pub returns-then-over_size : goal.returns-then-over_size
 unfolding named_by
 returns-then-over_size c =
     let p = c.refused_text.ensures in
+    let value = rw c.into.ensures at p.value.0 in
+    let after = rw c.into.ensures at p.out_after in
     let e = sym (asked_over c.args.ns.now (sym c.over_size.ensures ∙ c.if-over_size.true)) in
     record {
-      value = (p.value.0 ∙ ap length e, omega (arith, p.value.1));
-      out_after = p.out_after ∙ ap (sets c.args.out.now 0) e;
+      value = (value ∙ ap length e, omega (arith, p.value.1));
+      out_after = after ∙ ap (sets c.args.out.now 0) e;
     }
 
 pub split-keys-requires : goal.split-keys-requires
@@ -82,10 +84,12 @@ pub returns-then-over_work : goal.returns-then-over_work
 unfolding named_by
 returns-then-over_work c =
     let p = c.refused_text-then-over_work.ensures in
+    let value = rw c.into-then-over_work.ensures at p.value.0 in
+    let after = rw c.into-then-over_work.ensures at p.out_after in
     let e = sym (text_over c.args.ns.now c.requires.ns_value (small (goal.at.returns-then-over_work c).After-settings_of-settings) _ c.settings_of-settings.ensures _ (begun (goal.at.returns-then-over_work c).After-settings_of-settings) _ c.over_work.ensures c.if-over_work.true) in
     record {
-      value = (p.value.0 ∙ ap length e, omega (arith, p.value.1));
-      out_after = p.out_after ∙ ap (sets c.args.out.now 0) e;
+      value = (value ∙ ap length e, omega (arith, p.value.1));
+      out_after = after ∙ ap (sets c.args.out.now 0) e;
     }
 
 pub weights_of-requires : goal.weights_of-requires

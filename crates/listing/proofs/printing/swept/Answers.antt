@@ -6,7 +6,7 @@ use native.Mathlib.Omega.{arith}
 use mathlib.Core.Path.{◌≡◌, sym, ap, ◌∙◌}
 use Rattle.rules.specs.Numbers.{lent_of}
 use Rattle.rules.specs.Order.{Input, input_of}
-use Rattle.rules.specs.declared.Outcome.TheVariants as Ended
+use Rattle.std.specs.Prelude.{Ok}
 use Rattle.rules.specs.declared.Counts.{Counts}
 use Rattle.listing.specs.Listing.{lent_by}
 use Rattle.listing.proofs.PrintLaws.{Swept, lent_same, swept_refused, swept_done, swept_text_lem}
@@ -25,7 +25,7 @@ module _ (d : goal.After-sweep-r) where
       let p = d.requires.seeds_len in
       lent_same input d.args.seeds.now d.args.bitmap.now d.args.work.now p.0 p.1 p.2
 
-  swept_at : (counts : Counts) → d.sweep-r.result.outcome ≡ Ended.Done counts
+  swept_at : (counts : Counts) → d.sweep-r.result.outcome ≡ Ok counts
       → Swept d.args.bump input counts d.sweep-r.new.seeds d.sweep-r.new.bitmap
   swept_at counts e = swept_done _ input _ lent d.sweep-r.result d.sweep-r.ensures.answer counts _ _ _ _ e d.sweep-r.ensures.given d.sweep-r.ensures.marked
 
@@ -34,23 +34,23 @@ listed-requires c =
     let p = c.requires in
     let k : length c.sweep-r.new.seeds ≡ c.args.settings.buckets = c.sweep-r.auto.seeds ∙ p.seeds_len.0 in
     record {
-      le_m = ((swept_at (goal.at.listed-requires c).After-sweep-r _ c.in-Done.is).m_low, p.m_bound.0, c.sweep-r.auto.bitmap ∙ p.seeds_len.1, omega (arith, k, p.m_bound.1), p.m_bound.2);
+      le_m = ((swept_at (goal.at.listed-requires c).After-sweep-r _ c.in-Ok.is).m_low, p.m_bound.0, c.sweep-r.auto.bitmap ∙ p.seeds_len.1, omega (arith, k, p.m_bound.1), p.m_bound.2);
       by_index = λ b h. p.by_index b (omega (arith, k, h));
     }
 
-pub returns-in-Refused : goal.returns-in-Refused
-returns-in-Refused c =
+pub returns-in-Err : goal.returns-in-Err
+returns-in-Err c =
     let p = c.refused_text.ensures in
-    let e = sym (swept_refused c.args.bump (input (goal.at.returns-in-Refused c).After-sweep-r) _ (lent (goal.at.returns-in-Refused c).After-sweep-r) c.sweep-r.result c.sweep-r.ensures.answer _ _ c.in-Refused.is) in
+    let e = sym (swept_refused c.args.bump (input (goal.at.returns-in-Err c).After-sweep-r) _ (lent (goal.at.returns-in-Err c).After-sweep-r) c.sweep-r.result c.sweep-r.ensures.answer _ c.in-Err.is) in
     record {
       value = (p.value.0 ∙ ap length e, omega (arith, p.value.1));
       out_after = p.out_after ∙ ap (sets c.args.out.now 0) e;
     }
 
-pub returns-in-Done : goal.returns-in-Done
-returns-in-Done c =
+pub returns-in-Ok : goal.returns-in-Ok
+returns-in-Ok c =
     let p = c.listed.ensures in
-    let e = sym (swept_text_lem c.args.bump (input (goal.at.returns-in-Done c).After-sweep-r) _ _ _ (swept_at (goal.at.returns-in-Done c).After-sweep-r _ c.in-Done.is)) in
+    let e = sym (swept_text_lem c.args.bump (input (goal.at.returns-in-Ok c).After-sweep-r) _ _ _ (swept_at (goal.at.returns-in-Ok c).After-sweep-r _ c.in-Ok.is)) in
     record {
       value = (p.value.0 ∙ ap length e, p.value.1);
       out_after = p.out_after ∙ ap (sets c.args.out.now 0) e;

@@ -6,7 +6,8 @@ use lib.Seq.{length-take-le}
 use Prim.Native.Nat.{ℕ}
 use native.Mathlib.Omega.{arith}
 use mathlib.Core.List.{List}
-use mathlib.Core.Path.{refl, sym, ap, ◌∙◌}
+use Rattle.rules.specs.Numbers.{bitmap_words}
+use mathlib.Core.Path.{◌≡◌, refl, sym, ap, ◌∙◌}
 use Rattle.rules.specs.Order.{input_of}
 use Rattle.listing.specs.Listing.{swept_text}
 use Rattle.listing.proofs.printing.swept_alone.Goals as goal
@@ -20,9 +21,10 @@ slice_bounds-swept-end-3 c = sym (length-take-le _ _ (omega arith))
 pub swept-requires : goal.swept-requires
 swept-requires c =
     let p = c.requires in
+    let words : c.div_ceil-words.result ≡ bitmap_words c.args.settings.m = omega (arith, c.div_ceil-words.ensures) in
     record {
       m_bound = p.m_bound;
-      seeds_len = (length-take-le _ _ (omega (arith, p.m_bound)), length-take-le _ _ (omega (arith, p.m_bound)), refl);
+      seeds_len = (length-take-le _ _ (omega (arith, p.m_bound)), length-take-le _ _ (omega (arith, p.m_bound)) ∙ words, refl);
       by_index = p.by_index;
     }
 

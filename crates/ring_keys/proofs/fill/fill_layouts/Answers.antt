@@ -2,15 +2,12 @@
 use Rattle.std.proofs.Common.{◌≡◌, ◌+◌, ◌-◌, ◌<◌, ℕ, ap, arith, div-le_self}
 use Rattle.rules.specs.Geometry as G
 use Rattle.geometry.proofs.Sizes.{sized}
-use Rattle.ring_keys.specs.FillLaws.{layouts_none, layouts_in, layouts_more, key_code, layouts_are, bits_are, shift_small}
+use Rattle.ring_keys.specs.FillLaws.{layouts_in, layouts_more, key_code, layouts_are, bits_are, shift_small}
 use Rattle.ring_keys.proofs.fill.fill_layouts.Goals as goal
 use Rattle.ring_keys.proofs.fill.fill_layouts.Goals.{After-layout_place-o}
 
 pub overflow_add-base : goal.overflow_add-base
 overflow_add-base c = omega (arith, c.slice_of.ensures.1, (sized c.args.g c.requires.made).ns_high)
-
-pub loop-r-init : goal.loop-r-init
-loop-r-init c = (omega arith, layouts_none _ _ _ _ _ _)
 
 pub layout_place-o-requires-clause-shift_bound : goal.layout_place-o-requires-clause-shift_bound
 layout_place-o-requires-clause-shift_bound c =
@@ -45,10 +42,12 @@ overflow_add-shift c =
 
 pub loop-r-preserved : goal.loop-r-preserved
 loop-r-preserved c =
-    let base : c.slice_of.result + 95 - c.args.start ≡ G.slice_of c.args.g.settings c.args.h + 95 - c.args.start = ap (λ (x : ℕ). x + 95 - c.args.start) c.slice_of.ensures.0 in
-    (omega (arith, c.loop-r.invariant.0), layouts_more c.requires.le_size.0 c.requires.le_size.2 c.loop-r.invariant.1 (below (goal.at.loop-r-preserved c).After-layout_place-o)
-    (key_code c.args.g c.requires.made c.args.h c.args.start c.loop-r.r c.offset_of-offset.result
-    (c.slice_of.result + 95 - c.args.start) c.layout_place-o.result c.pack.result c.requires.start_bound c.offset_of-offset.ensures base (rw c.loop-r.invariant.0 at c.layout_place-o.ensures.0) c.pack.ensures))
+    let base : c.slice_of.result + 95 - c.args.start ≡ G.slice_of c.args.g.settings c.args.h + 95 - c.args.start = ap (λ (x : ℕ). x + 95 - c.args.start) c.slice_of.ensures.0 in (
+      omega (arith, c.loop-r.invariant.0),
+      layouts_more c.requires.le_size.0 c.requires.le_size.2 c.loop-r.invariant.1 (below (goal.at.loop-r-preserved c).After-layout_place-o)
+          (key_code c.args.g c.requires.made c.args.h c.args.start c.loop-r.r c.offset_of-offset.result
+          (c.slice_of.result + 95 - c.args.start) c.layout_place-o.result c.pack.result c.requires.start_bound c.offset_of-offset.ensures base (rw c.loop-r.invariant.0 at c.layout_place-o.ensures.0) c.pack.ensures),
+    )
 
 pub returns : goal.returns
 returns c =

@@ -2,9 +2,7 @@
 use mathlib.Core.Path.{◌≡◌}
 use Prim.Native.Nat.{ℕ, ◌+◌, ◌-◌, ◌*◌, ◌%◌, ◌^◌, ◌≤◌}
 use native.Mathlib.Omega.{arith}
-use native.Mathlib.Nat.{mod-le}
 use lib.Bits.{bit_and}
-use Rattle.words.specs.ShiftLaws.{one_shl_pos}
 use Rattle.ring_keys.specs.RingKey.{packed}
 use Rattle.ring_keys.specs.FillLaws.{column_code, pack_code}
 use Rattle.ring_keys.proofs.fill.pack.Goals as goal
@@ -19,15 +17,6 @@ column_is c = column_code c.args.t c.args.o (omega arith)
 
 packs : (c : goal.Start) → (column c.args.t c.args.o ≤ c.args.o) × ((c.args.base + column c.args.t c.args.o) * 2 ^ 32 % 2 ^ 64 + (c.args.o - column c.args.t c.args.o) ≡ packed c.args.t c.args.base c.args.o)
 packs c = pack_code c.args.t c.args.base c.args.o (column c.args.t c.args.o) (omega arith) (omega arith) (column_is c)
-
-pub overflow_sub-column : goal.overflow_sub-column
-overflow_sub-column c = one_shl_pos 64 c.args.t (omega arith)
-
-pub overflow_add-result : goal.overflow_add-result
-overflow_add-result c = omega (arith, column_is (goal.at.overflow_add-result c).Start, mod-le c.args.o (2 ^ c.args.t))
-
-pub overflow_sub-result : goal.overflow_sub-result
-overflow_sub-result c = omega (arith, (packs (goal.at.overflow_sub-result c).Start).0)
 
 pub returns : goal.returns
 returns c = (packs (goal.at.returns c).Start).1

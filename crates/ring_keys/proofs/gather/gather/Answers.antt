@@ -2,17 +2,11 @@
 use Rattle.std.proofs.Common.{arith}
 use Rattle.geometry.proofs.Sizes.{sized}
 use Rattle.ring_keys.specs.FillLaws.{layouts_are}
-use Rattle.ring_keys.specs.GatherLaws.{gathering_none, gathering_more, ready_shape, ready_order, ready_hash, gathered}
+use Rattle.ring_keys.specs.GatherLaws.{gathering_more, ready_shape, ready_order, ready_hash, gathered}
 use Rattle.ring_keys.proofs.gather.gather.Goals as goal
 
 pub begin_free-requires : goal.begin_free-requires
 begin_free-requires g c = omega (arith, layouts_are c.args.g c.requires.ready.made, c.requires.ready.free)
-
-pub loop-i-init : goal.loop-i-init
-loop-i-init g c = gathering_none _ _ _ _ _ _ _
-
-pub overflow_add-at : goal.overflow_add-at
-overflow_add-at g c = omega (arith, ready_order c.requires.ready, c.requires.ready.free)
 
 pub gather_key-requires-clause-hash_ready : goal.gather_key-requires-clause-hash_ready
 gather_key-requires-clause-hash_ready g c =

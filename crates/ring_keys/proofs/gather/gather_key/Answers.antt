@@ -3,14 +3,11 @@ use Rattle.std.proofs.Common.{◌≡◌, arith}
 use Rattle.rules.specs.Geometry as G
 use Rattle.geometry.proofs.Sizes.{sized}
 use Rattle.ring_keys.specs.FillLaws.{layouts_are}
-use Rattle.ring_keys.specs.GatherLaws.{hash_none, hash_shift, hash_key, hash_word, hash_code, hash_row, hash_more}
+use Rattle.ring_keys.specs.GatherLaws.{hash_shift, hash_key, hash_word, hash_code, hash_row, hash_more}
 use Rattle.ring_keys.proofs.gather.gather_key.Goals as goal
 
 pub overflow_add-base : goal.overflow_add-base
 overflow_add-base g c = omega (arith, c.slice_of.ensures.1, (sized c.args.g c.requires.hash_ready.made).ns_high)
-
-pub loop-r-init : goal.loop-r-init
-loop-r-init g c = hash_none _ _ _ _ _ _ _ _
 
 pub overflow_mul-r : goal.overflow_mul-r
 overflow_mul-r g c = omega (arith, hash_shift c.requires.hash_ready c.loop-r.invariant c.loop-r-test.true)

@@ -3,12 +3,8 @@ use mathlib.Core.Path.{◌≡◌}
 use Prim.Native.Nat.{◌*◌, ◌%◌, ◌^◌}
 use native.Mathlib.Omega.{arith}
 use native.Mathlib.Nat.{mod-eq_of_lt}
-use Rattle.rings.specs.RingLaws.{shape_pos}
 use Rattle.rings.specs.ColumnLaws.{col_code, col_end}
 use Rattle.rings.proofs.columns.load_column.Goals as goal
-
-pub overflow_sub-g : goal.overflow_sub-g
-overflow_sub-g c = shape_pos c.args.g c.requires.shape
 
 pub load_rows-requires : goal.load_rows-requires
 load_rows-requires c =

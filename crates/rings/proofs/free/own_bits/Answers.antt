@@ -1,11 +1,7 @@
 -- `own_bits` gives the low n bits: 2^n - 1 below 64, and all bits of the word from there on.
 use native.Mathlib.Omega.{arith}
-use Rattle.words.specs.ShiftLaws.{one_shl_pos}
 use Rattle.rings.specs.BlockedLaws.{own_short, own_long}
 use Rattle.rings.proofs.free.own_bits.Goals as goal
-
-pub overflow_sub-result : goal.overflow_sub-result
-overflow_sub-result c = one_shl_pos 64 _ (omega arith)
 
 pub returns-then-n-lt64 : goal.returns-then-n-lt64
 returns-then-n-lt64 c = own_short _ (omega arith)

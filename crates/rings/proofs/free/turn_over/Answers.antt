@@ -1,7 +1,7 @@
 -- `turn_over` makes each word of the part the complement in turn, and counts the ones; no other changes.
-use Rattle.std.proofs.Common.{ℕ, List, ◌≡◌, ◌<◌, ◌≤◌, ◌+◌, ◌-◌, ◌^◌, zero-add, refl, get_or, set, bit_and, length, arith}
+use Rattle.std.proofs.Common.{ℕ, List, ◌≡◌, ◌<◌, ◌+◌, ◌-◌, ◌^◌, zero-add, refl, get_or, set, bit_and, length, arith}
 use Rattle.std.specs.Int.Count.{ones}
-use Rattle.std.proofs.lemmas.Nat.{and_le_r, ones-le}
+use Rattle.std.proofs.lemmas.Nat.{and_le_r}
 use Rattle.rings.specs.BlockedLaws.{over_none, over_more}
 use Rattle.rings.specs.Blocked.{TurnedOver}
 use Rattle.rings.specs.Parts.{length_part}
@@ -11,9 +11,6 @@ use Rattle.rings.proofs.free.turn_over.Goals as goal
 small : (x own : ℕ) → own < 2 ^ 64 → bit_and (2 ^ 64 - 1 - x) own < 2 ^ 64
 small x own h = omega (arith, and_le_r (2 ^ 64 - 1 - x) own)
 
-few : (x own : ℕ) → own < 2 ^ 64 → ones (bit_and (2 ^ 64 - 1 - x) own) ≤ 64
-few x own h = ones-le 64 (bit_and (2 ^ 64 - 1 - x) own) (small x own h)
-
 next : {l now : List ℕ} {i own total n : ℕ} → i < length l → own < 2 ^ 64 → n ≡ ones (bit_and (2 ^ 64 - 1 - get_or now i 0) own) → TurnedOver l 0 i own total now
     → TurnedOver l 0 (i + 1) own (total + n) (set now i (bit_and (2 ^ 64 - 1 - get_or now i 0) own))
 next {l} {now} {i} {own} {total} {n} lt h e a =
@@ -21,10 +18,6 @@ next {l} {now} {i} {own} {total} {n} lt h e a =
 
 pub loop-word-init : goal.loop-word-init
 loop-word-init c = over_none _ _ _
-
-pub overflow_add-total : goal.overflow_add-total
-overflow_add-total c =
-    omega (arith, few (get_or c.loop-word.word-items c.loop-word.word-index 0) c.args.own c.ranges.own.fits, length_part c.args.work.now c.args.to (c.args.to + c.args.words - c.args.to) (omega arith))
 
 pub loop-word-preserved : goal.loop-word-preserved
 loop-word-preserved c = next c.loop-word-test.true c.ranges.own.fits c.from-total.ensures c.loop-word.invariant

@@ -1,19 +1,8 @@
 -- `unmark_keys` unmarks from the last key to the first; the keys lie above the ring, so no mark changes them.
 use native.Mathlib.Omega.{arith}
 use mathlib.Core.Path.{◌≡◌, sym, ◌∙◌}
-use Rattle.rings.specs.PlaceLaws.{unmarking_start, unmarking_ok, unmarking_more, unmarked_to_zero}
+use Rattle.rings.specs.PlaceLaws.{unmarking_more, unmarked_to_zero}
 use Rattle.rings.proofs.place.unmark_keys.Goals as goal
-
-pub loop-i-init : goal.loop-i-init
-loop-i-init c = unmarking_start _ _ _ _ _ _ _ _
-
-pub slot_of-p-requires : goal.slot_of-p-requires
-slot_of-p-requires c =
-    record {
-      shape = c.requires.shape;
-      key = unmarking_ok c.requires.shape c.loop-i.invariant c.requires.words_le_at.0 c.loop-i-test.true (omega arith) c.requires.words_le_at.1 c.requires.keys;
-      start_bound = c.requires.start_bound;
-    }
 
 pub loop-i-preserved : goal.loop-i-preserved
 loop-i-preserved c =

@@ -1,22 +1,9 @@
 -- `ring64` gives 64 slots of a ring in three ways: a row turned, a row as it is, and two rows where the ring goes round.
-use native.Mathlib.Omega.{arith}
 use mathlib.Core.Path.{ap}
 use Prim.Native.Nat.{ℕ, ◌+◌}
-use Rattle.rings.specs.RingLaws.{n_le, step_lt, step_code}
-use Rattle.rings.specs.RowLaws.{ring_short, ring_straight, ring_round}
+use Rattle.rings.specs.RingLaws.{step_code}
+use Rattle.rings.specs.RowLaws.{ring_straight, ring_round}
 use Rattle.rings.proofs.rows.ring64.Goals as goal
-
-pub returns-then-n-le64 : goal.returns-then-n-le64
-returns-then-n-le64 c =
-    ring_short c.if-n-le64.true c.requires.x_lt_n.0 c.row64.ensures c.turn.ensures
-
-pub overflow_add-first : goal.overflow_add-first
-overflow_add-first c =
-    omega (arith, step_lt c.args.g c.requires.shape c.args.x c.requires.x_lt_n.0, step_code c.args.g c.requires.shape c.args.x c.requires.x_lt_n.0)
-
-pub overflow_add-x : goal.overflow_add-x
-overflow_add-x c =
-    omega (arith, n_le c.args.g c.requires.shape)
 
 pub returns-then-x-n : goal.returns-then-x-n
 returns-then-x-n c =

@@ -1,11 +1,8 @@
 -- `next_word` gives the word one column on: the mask is the remainder by the words, a power of two.
 use native.Mathlib.Omega.{arith}
 use native.Mathlib.Nat.{mod-lt}
-use Rattle.rings.specs.RingLaws.{stride_le, next_code, shape_pos}
+use Rattle.rings.specs.RingLaws.{next_code, shape_pos}
 use Rattle.rings.proofs.slots.next_word.Goals as goal
-
-pub overflow_add-result : goal.overflow_add-result
-overflow_add-result c = omega (arith, stride_le c.args.g.t c.requires.shape.e c.args.g.words (omega arith) c.requires.shape.size)
 
 pub returns : goal.returns
 returns c =

@@ -1,17 +1,10 @@
 -- `word_of` gives the slot's word: its shifts and masks are the division and the remainders of `word_of`, and nothing overflows since a column's number is at most the slot's.
 use native.Mathlib.Omega.{arith}
-use Rattle.words.specs.ShiftLaws.{one_shl_pos}
 use Rattle.rings.specs.RingLaws.{shape_pos, word_fits, word_code, word_lt}
 use Rattle.rings.proofs.slots.word_of.Goals as goal
 
-pub overflow_sub-result : goal.overflow_sub-result
-overflow_sub-result c = one_shl_pos 64 c.args.g.t (omega arith)
-
 pub overflow_add-result : goal.overflow_add-result
 overflow_add-result c = record { fits = word_fits c.args.g.t c.args.p (omega arith) c.ranges.p.fits }
-
-pub overflow_sub-result-2 : goal.overflow_sub-result-2
-overflow_sub-result-2 c = shape_pos c.args.g c.requires
 
 pub returns : goal.returns
 returns c =

@@ -1,26 +1,11 @@
--- The best so far is that of the layouts below r, and the work is as it was. The measure is the number of layouts left. Assumes nothing.
-use mathlib.Core.Path.{◌≡◌, refl, ◌∙◌}
-use native.Mathlib.Omega.{arith}
-use Rattle.best.specs.Layouts.{row_le}
+-- The best so far is that of the layouts below r, and the work is as it was. Assumes nothing.
+use Rattle.std.proofs.Common.{refl, ◌∙◌}
 use Rattle.search.specs.DistinctLaws.{rows_none, rows_more}
 use Rattle.search.proofs.distinct.best_distinct.Goals as goal
 
 pub loop-r-init : goal.loop-r-init
-loop-r-init c = (refl, omega arith, rows_none _ _ _ _ _ _ _ _, omega arith, omega arith)
-
-pub distinct_layout-best-requires : goal.distinct_layout-best-requires
-distinct_layout-best-requires c = let lt = c.loop-r-test.true in
-    rw (c.loop-r.invariant.0, c.loop-r.invariant.3, c.loop-r.invariant.4) (record { key_row = c.requires.keys c.loop-r.r lt; free_row = c.requires.free c.loop-r.r lt })
-
-pub overflow_add-a : goal.overflow_add-a
-overflow_add-a c = omega (arith, c.requires.room.0, c.loop-r.invariant.3, row_le _ _ c.args.size c.loop-r-test.true)
-
-pub overflow_add-f : goal.overflow_add-f
-overflow_add-f c = omega (arith, c.requires.room.1, c.loop-r.invariant.4, row_le _ _ c.args.count c.loop-r-test.true)
+loop-r-init c = (refl, rows_none _ _ _ _ _ _ _ _)
 
 pub loop-r-preserved : goal.loop-r-preserved
-loop-r-preserved c = (c.distinct_layout-best.ensures.1 ∙ c.loop-r.invariant.0, omega arith, rows_more c.args.g c.args.table.now c.args.work.now c.args.at c.args.size c.args.start c.args.to c.args.count c.loop-r.r c.loop-r.invariant.2 c.loop-r.invariant.3 c.loop-r.invariant.4 (rw c.loop-r.invariant.0 at c.distinct_layout-best.ensures.0), omega (arith, c.loop-r.invariant.3), omega (arith, c.loop-r.invariant.4))
-
-pub returns : goal.returns
-returns c = let e : c.loop-r.r ≡ c.args.layouts = omega arith in
-    (rw e at c.loop-r.invariant.2, c.loop-r.invariant.0)
+loop-r-preserved c =
+    (c.distinct_layout-best.ensures.1 ∙ c.loop-r.invariant.0, rows_more c.args.g c.args.table.now c.args.work.now c.args.at c.args.size c.args.start c.args.to c.args.count c.loop-r.r c.loop-r.invariant.1 (rw c.loop-r.invariant.0 at c.distinct_layout-best.ensures.0))

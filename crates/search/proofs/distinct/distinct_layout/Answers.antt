@@ -1,7 +1,5 @@
--- The best so far is that of the rotations below 64 w, and from n on none is free; the work is as it was. The measure is the number of words left.
--- Assumes nothing.
-use mathlib.Core.Path.{refl, sym, ◌∙◌}
-use native.Mathlib.Omega.{arith}
+-- The best so far is that of the rotations below 64 w, and from n on none is free; the work is as it was. Assumes nothing.
+use Rattle.std.proofs.Common.{refl, sym, ◌∙◌, arith}
 use Rattle.rings.specs.Parts.{part, length_part}
 use Rattle.best.specs.BestLaws.{from_none}
 use Rattle.best.specs.Walk.{word_more, word_end}
@@ -9,13 +7,12 @@ use Rattle.search.specs.DistinctLaws.{distinct_only}
 use Rattle.search.proofs.distinct.distinct_layout.Goals as goal
 
 pub loop-w-init : goal.loop-w-init
-loop-w-init c = (refl, omega arith, sym (from_none _ _ _ _ _))
-
-pub distinct_word-best-requires : goal.distinct_word-best-requires
-distinct_word-best-requires c = rw c.loop-w.invariant.0 (record { key_row = c.requires.key_row; free_row = c.requires.free_row; w_lt_count = c.loop-w-test.true })
+loop-w-init c = (refl, sym (from_none _ _ _ _ _))
 
 pub loop-w-preserved : goal.loop-w-preserved
-loop-w-preserved c = (c.distinct_word-best.ensures.1 ∙ c.loop-w.invariant.0, omega arith, word_more _ _ _ _ _ c.loop-w.invariant.2 (rw c.loop-w.invariant.0 at c.distinct_word-best.ensures.0))
+loop-w-preserved c =
+    (c.distinct_word-best.ensures.1 ∙ c.loop-w.invariant.0, word_more _ _ _ _ _ c.loop-w.invariant.1 (rw c.loop-w.invariant.0 at c.distinct_word-best.ensures.0))
 
 pub returns : goal.returns
-returns c = (word_end _ _ _ _ _ _ c.loop-w.w (distinct_only c.args.g c.args.start (part c.args.work.now c.args.a c.args.size) (part c.args.work.now c.args.f c.args.count)) c.requires.free_row.ended (omega (arith, length_part c.args.work.now c.args.f c.args.count c.requires.free_row.room)) c.loop-w.invariant.2, c.loop-w.invariant.0)
+returns c =
+    (word_end _ _ _ _ _ _ c.loop-w.w (distinct_only c.args.g c.args.start (part c.args.work.now c.args.a c.args.size) (part c.args.work.now c.args.f c.args.count)) c.requires.free_row.ended (omega (arith, length_part c.args.work.now c.args.f c.args.count c.requires.free_row.room)) c.loop-w.invariant.1, c.loop-w.invariant.0)

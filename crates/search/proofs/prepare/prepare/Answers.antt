@@ -1,35 +1,27 @@
 -- One pass fills in ring keys and free words, with literals where these are the geometry's own numbers; where a layout has more than one free word the ring keys
 -- are filled in first, and the free words are then those of the ring keys. Assumes nothing.
-use native.Mathlib.Omega.{arith}
+use Rattle.std.proofs.Common.{arith}
 use Rattle.search.specs.Usual.{usual_ring}
 use Rattle.search.specs.Preparing.{ring_shape, layouts_few, keys_room, keys_known, gathered, one_ready, one_gathered, literal_ready, literal_gathered}
 use Rattle.search.proofs.prepare.prepare.Goals as goal
 
-pub literal-requires : goal.literal-requires
-literal-requires c =
-    let p = c.requires in
-    record {
-      made = p.made;
-      usual = c.usual.ensures c.if-usual.true;
-    }
-
 pub literal_ring-requires : goal.literal_ring-requires
-literal_ring-requires c = let p = c.requires in usual_ring p.made (c.usual.ensures c.if-usual.true) p.level
+literal_ring-requires c = let p = c.requires in usual_ring p.made (c.usual.ensures.told c.if-usual.true) p.level
 
 pub gather-requires : goal.gather-requires
 gather-requires c =
-    let whole = literal_ready c.requires (c.usual.ensures c.if-usual.true) c.literal.ensures c.literal_ring.ensures in
+    let whole = literal_ready c.requires (c.usual.ensures.told c.if-usual.true) c.literal.ensures c.literal_ring.ensures in
     record { ready = whole.0; n_value = λ _. whole.1 }
 
 pub returns-then-usual : goal.returns-then-usual
 returns-then-usual c =
-    literal_gathered c.requires (c.usual.ensures c.if-usual.true) c.literal.ensures c.literal_ring.ensures c.gather.ensures
+    literal_gathered c.requires (c.usual.ensures.told c.if-usual.true) c.literal.ensures c.literal_ring.ensures c.gather.ensures
 
-pub gather-requires-then-n-le64-clause-ready : goal.gather-requires-then-n-le64-clause-ready
-gather-requires-then-n-le64-clause-ready c = one_ready c.requires c.if-n-le64.true
+pub gather-requires-then-ring-le64-clause-ready : goal.gather-requires-then-ring-le64-clause-ready
+gather-requires-then-ring-le64-clause-ready c = one_ready c.requires c.if-ring-le64.true
 
-pub returns-then-n-le64 : goal.returns-then-n-le64
-returns-then-n-le64 c = one_gathered c.requires c.if-n-le64.true c.gather-then-n-le64.ensures
+pub returns-then-ring-le64 : goal.returns-then-ring-le64
+returns-then-ring-le64 c = one_gathered c.requires c.if-ring-le64.true c.gather-then-ring-le64.ensures
 
 pub fill_keys-requires : goal.fill_keys-requires
 fill_keys-requires c =
@@ -46,7 +38,7 @@ fill_free-requires c =
     let k = c.fill_keys.ensures in
     record {
       shape = ring_shape p;
-      words_le_at = (p.above, p.below, omega (arith, p.room, k.len), p.words.short, c.if-n-le64.false);
+      words_le_at = (p.above, p.below, omega (arith, p.room, k.len), p.words.short, c.if-ring-le64.false);
       keys = keys_known p k;
       start_bound = (p.begin, layouts_few p);
     }

@@ -1,6 +1,6 @@
 -- Ring and bitmap are marked key after key (`Marking`, `Mapping`), up to a key whose slot the ring has marked already; the keys lie above the ring, so no mark
 -- changes them. The measure is the number of keys left. Assumes nothing.
-use native.Mathlib.Omega.{arith}
+use Rattle.std.proofs.Common.{◌≡◌, arith}
 use Rattle.rings.specs.Parts.{length_part}
 use Rattle.rings.specs.PlaceLaws.{marking_none, marking_ok, marking_met, marking_more, marking_all, mapping_none, mapping_more}
 use Rattle.search.proofs.BothLaws.{slot_is}
@@ -57,4 +57,6 @@ pub shape_of-bitmap : goal.shape_of-bitmap
 shape_of-bitmap c = c.loop-i.invariant.1.len
 
 pub returns : goal.returns
-returns c = record { ring = marking_all c.loop-i.invariant.0 c.loop-i-test.false; map = c.loop-i.invariant.1.is }
+returns c =
+    let e : c.loop-i.i ≡ c.args.size = omega arith in
+    record { ring = rw e at (marking_all c.loop-i.invariant.0 c.loop-i-test.false); map = rw e at c.loop-i.invariant.1.is }

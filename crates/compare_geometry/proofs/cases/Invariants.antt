@@ -1,9 +1,0 @@
--- The loop takes as many turns as there are cases, and a case asks nothing.
-use Rattle.std.proofs.Common.{◌≤◌, ◌-◌}
-use Rattle.compare_geometry.proofs.cases.Given as goal
-
-abbrev pub invariant-loop-i : goal.invariant-loop-i
-invariant-loop-i l = l.i ≤ l.count
-
-abbrev pub decreases-loop-i : goal.decreases-loop-i
-decreases-loop-i l = l.count - l.i
