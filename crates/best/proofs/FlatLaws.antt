@@ -55,9 +55,6 @@ low_code q shift h = rw (one_shl shift (omega arith)) (mask_is q (2 ^ shift) shi
 pub low_small : (q shift : ℕ) → shift ≤ 16 → bit_and q (1 * 2 ^ shift % 2 ^ 64 - 1) < 65536
 low_small q shift h = rw (low_code q shift h) (omega (arith, mod-lt q (pow_pos shift), pow_mono h))
 
-pub shl_pos : (shift : ℕ) → shift ≤ 16 → 1 ≤ 1 * 2 ^ shift % 2 ^ 64
-shl_pos shift h = rw (one_shl shift (omega arith)) (pow_pos shift)
-
 -- what the code has of a number, in its layout's terms
 pub layout_code : (shift : ℕ) (b : Best) {j : ℕ} → j ≡ b.j % 2 ^ shift → record { cost = b.cost; r = b.j / 2 ^ shift; j = j } ≡ layout_of shift b
 unfolding layout_of

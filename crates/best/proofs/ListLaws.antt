@@ -129,9 +129,6 @@ module _ {l : List ℕ} {to bits list i c : ℕ} {work : List ℕ} (t : ListedTo
     kept = kept_on t.kept (kept_on (kept_set list work c (get_or work (to + i) 0) (to_room h).0) (kept_set list (set work c (get_or work (to + i) 0)) (c + 1) i (omega (arith, (to_room h).0))));
   }
 
-  pub to_end : bits ≤ i → Listed (part l to bits) list bits work
-  to_end h = let e : i ≡ bits = omega (arith, t.le) in rw e at t.listed
-
 -- ---- the first word that is not 0
 
 pub record First (free : List ℕ) (from n : ℕ) : Type 0 where

@@ -75,12 +75,3 @@ module _ {g : Ring} {table l : List ℕ} {at size shift list total : ℕ} {work 
           rw es (stand_on here n p.words (omega (arith, room.1)) (eb ∙ ap (λ (x : ℕ). better x 0 q best) same));
       kept = kept_on a.kept (kept_set list work k (bit_and (get_or work k 0) (get_or work k 0 - 1)) room.0);
     }
-
--- ---- a size that is known
-
-module _ {g : Ring} {table l : List ℕ} {at size shift list total : ℕ} (x : ℕ) (e : size ≡ x) where
-  pub pass_sized : Pass g table l at size shift list total → Pass g table l at x shift list total
-  pass_sized p = rw e at p
-
-  pub passed_sized : {b : Best} {after : List ℕ} → Passed g table l at x shift list total b after → Passed g table l at size shift list total b after
-  passed_sized p = rw e p

@@ -1,25 +1,23 @@
--- A layout's set has the wrap point of each of its keys, and the loops that fill it, in words that lie above the keys in one list.
+-- A layout's set has the wrap point of each of its keys, and the loop that fills it, in words that lie above the keys in one list.
 -- Assumes nothing.
-use Rattle.std.specs.Prelude.{◌≡◌, ◌≢◌, List, get_or, set, take, drop, replicate}
+use Rattle.std.specs.Prelude.{◌≡◌, ◌≢◌, List, get_or, take, drop, replicate}
 use Rattle.std.proofs.Math.Path.{refl}
-use Rattle.std.proofs.Common.{sym, ap, ◌∙◌, mod-eq_of_lt, add-one, get_or-set_same, get_or-set_other, ext_get_or, eq-eqb, ne_eqb}
+use Rattle.std.proofs.Common.{sym, ap, ◌∙◌, mod-eq_of_lt, add-one, eq-eqb, ne_eqb}
 use Rattle.std.proofs.Math.Logic.{⊎_elim}
-use Prim.Native.Nat.{ℕ, zero, suc, ◌+◌, ◌-◌, ◌*◌, ◌/◌, ◌%◌, ◌^◌, ◌≤◌, ◌<◌}
+use Prim.Native.Nat.{ℕ, zero, suc, ◌+◌, ◌-◌, ◌*◌, ◌%◌, ◌≤◌, ◌<◌}
 use native.Mathlib.Omega.{arith}
 use Rattle.std.proofs.Math.Nat.{mod-eq-sub-mod}
-use Rattle.std.specs.Int.Bits.{bit_or}
 use Rattle.std.proofs.Math.ListN.{length}
-use Rattle.std.proofs.lemmas.List.{length-replicate, get_or-replicate, drop-set-add}
-use Rattle.std.proofs.Math.Seq.{take-set-lt}
+use Rattle.std.proofs.lemmas.List.{length-replicate}
 use Rattle.words.specs.Cases.{lt_or_ge, same_or_not}
 use Rattle.words.specs.Map.{slot, marked}
-use Rattle.words.specs.MapLaws.{length_marked, marked_same, marked_other, mark_code}
+use Rattle.words.specs.MapLaws.{length_marked, marked_same, marked_other}
 use Rattle.rings.specs.declared.Ring.{Ring}
-use Rattle.rings.specs.Ring.{Shape, Word}
+use Rattle.rings.specs.Ring.{Shape}
 use Rattle.rings.specs.Keys.{place_at}
 use Rattle.rings.specs.KeyLaws.{place_lt, place_turn}
 use Rattle.rings.specs.Parts.{part, part_at, part_range, length_part, elem_same}
-use Rattle.best.specs.Kept.{Kept, kept_self, kept_set, kept_on, kept_part, kept_range}
+use Rattle.best.specs.Kept.{kept_self, kept_on, kept_part, kept_range}
 use Rattle.best.specs.Wraps.{with_point, points_of, Points, Filled}
 
 -- ---- one key's point
@@ -95,61 +93,6 @@ module _ (g : Ring) (s : Shape g) (keys : List ℕ) (count : ℕ) (fits : g.n �
   pub points_all : Points g keys (points_of g keys count (length keys))
   unfolding Points
   points_all i p l pos lt home = points_to (length keys) i p l pos lt home
-
--- ---- the loop of `clear`
-
-pub record Clearing (up count i : ℕ) (l now : List ℕ) : Type 0 where
-  pub le : i ≤ count
-  pub kept : Kept up l now
-  pub zeros : (k : ℕ) → k < i → get_or now (up + k) 0 ≡ 0
-
-pub clearing_none : (up count : ℕ) (l : List ℕ) → Clearing up count 0 l l
-clearing_none up count l = record { le = omega arith; kept = kept_self up l; zeros = λ k h. absurd (omega arith) }
-
-module _ {up count i : ℕ} {l now : List ℕ} (a : Clearing up count i l now) where
-  pub clearing_more : i < count → up + count ≤ length l → Clearing up count (i + 1) l (set now (up + i) 0)
-  clearing_more h fits = record {
-    le = omega arith;
-    kept = kept_on a.kept (kept_set up now (up + i) 0 (omega arith));
-    zeros = λ k x. ⊎_elim
-        (λ (y : k < i). get_or-set_other now (up + i) (up + k) 0 0 (omega arith) ∙ a.zeros k y)
-        (λ (y : i ≤ k).
-        let e : k ≡ i = omega arith in
-        rw e (get_or-set_same now (up + i) 0 0 (omega (arith, a.kept.len))))
-        (lt_or_ge k i);
-  }
-
-  pub clearing_end : count ≤ i → up + count ≤ length l → Filled up count l (replicate count 0) now
-  clearing_end h fits = record {
-    kept = a.kept;
-    is = ext_get_or 0 (part now up count) (replicate count 0) (long ∙ sym (length-replicate count 0)) (λ k x.
-        let y : k < count = omega (arith, long) in
-        part_at now up count k y ∙ a.zeros k (omega arith) ∙ sym (get_or-replicate count k 0 0 y));
-  }
-    where
-      long : length (part now up count) ≡ count
-      long = length_part now up count (omega (arith, a.kept.len))
-
--- ---- `set_point`
-
-pub point_none : (g : Ring) (d up count : ℕ) {x : ℕ} (l : List ℕ) → Word g.n (place_at g d 0) x → x ≡ 0 → Filled up count l (with_point g d (part l up count)) l
-point_none g d up count l w z = record { kept = kept_self up l; is = sym (with_none g d (part l up count) (sym w.is ∙ z)) }
-
-pub point_set : (g : Ring) (d up count : ℕ) {x : ℕ} (l : List ℕ) → Word g.n (place_at g d 0) x → x ≢ 0 → g.n ≤ 64 * count
-    → Filled up count l (with_point g d (part l up count)) (set l (up + (g.n - x) / 64) (bit_or (get_or l (up + (g.n - x) / 64) 0) (1 * 2 ^ ((g.n - x) % 64) % 2 ^ 64)))
-unfolding marked
-point_set g d up count {x} l w z fits = record {
-  kept = kept_set up l (up + (g.n - x) / 64) v (omega arith);
-  is = ap (take count) (drop-set-add up l ((g.n - x) / 64) v)
-      ∙ take-set-lt count (drop up l) ((g.n - x) / 64) v (omega (arith, w.lt))
-      ∙ ap (λ (y : ℕ). set (part l up count) ((g.n - x) / 64) (bit_or y (1 * 2 ^ ((g.n - x) % 64) % 2 ^ 64))) (sym (part_at l up count ((g.n - x) / 64) (omega (arith, w.lt))))
-      ∙ mark_code (part l up count) ((g.n - x) / 64) ((g.n - x) % 64) (omega arith)
-      ∙ ap (λ (y : ℕ). marked (part l up count) (g.n - y)) w.is
-      ∙ sym (with_some g d (part l up count) (λ e. z (w.is ∙ e)));
-}
-  where
-    v : ℕ
-    v = bit_or (get_or l (up + (g.n - x) / 64) 0) (1 * 2 ^ ((g.n - x) % 64) % 2 ^ 64)
 
 -- ---- the loop of `fill_wraps`
 

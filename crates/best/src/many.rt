@@ -59,6 +59,7 @@ fn best_segments(
     let n = g.n;
     let mut best = before;
     let mut begin = 0;
+    // No range: a step goes to the next wrap point, wherever that is.
     while begin < n {
         let end = next_set(wraps, begin + 1, n);
         best = best_segment(g, table, keys, free, r, begin, end, best);

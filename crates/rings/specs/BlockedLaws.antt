@@ -48,20 +48,6 @@ within_other {l} {l'} {to} {words} a k h = ⊎_elim (λ (b : k < to). elem_same 
 
 -- ---- the beginning
 
-pub cleared_none : (l : List ℕ) (to : ℕ) → Cleared l to 0 l
-cleared_none l to = record { within = within_none l to 0; zero = λ k h. absurd (omega arith) }
-
-pub cleared_more : {l l' : List ℕ} {to i : ℕ} → to + i < length l → Cleared l to i l' → Cleared l to (i + 1) (set l' (to + i) 0)
-cleared_more {l} {l'} {to} {i} lt a = record {
-  within = within_set (to + i) 0 (omega arith) (omega arith) (within_wider to (i + 1) (omega arith) (omega arith) a.within);
-  zero = λ k h. ⊎_elim
-      (λ (b : k < i). get_or-set_other l' (to + i) (to + k) 0 0 (omega arith) ∙ a.zero k b)
-      (λ (b : i ≤ k).
-      let e : k ≡ i = omega arith in
-      rw e (get_or-set_same l' (to + i) 0 0 (omega (arith, a.within.len))))
-      (lt_or_ge k i);
-}
-
 -- a word of a layout, and where it stands
 pub word_in : (layouts count q k : ℕ) → q < layouts → k < count → q * count + k < layouts * count
 word_in layouts count q k hq hk = digits_lt hq hk
