@@ -1,5 +1,6 @@
 mod Closing
 mod Fields
 mod Fill
+mod Results
 mod ToldLaws
 mod Worked

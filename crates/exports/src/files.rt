@@ -8,8 +8,8 @@ ghost use Rattle.exports.specs.Level.{settings_of};
 ghost use Rattle.exports.specs.Told.{number_told, values_told, value_told};
 
 use crate::level::settings_of;
-use level_file::reading::{Level, read_file};
-use level_file::writing::write_file;
+use crate::telling::tell;
+use level_file::{Level, read_file, write_file};
 
 // Writes a level file. 0: written has its length; else all bytes of out and written are 0.
 pub fn phastr_level_write(
@@ -27,21 +27,10 @@ pub fn phastr_level_write(
     ensures file { out.new ≡ bytes_after (level_of (settings_of m log2_slice_len ll sb buckets) seeds.now holes.now) out.old }
     ensures long { written.new ≡ value_told (write_answer (level_of (settings_of m log2_slice_len ll sb buckets) seeds.now holes.now) (length out.old)) 0 }
 {
-    match write_file(
-        settings_of(m, log2_slice_len, ll, sb, buckets),
-        seeds,
-        holes,
-        out,
-    ) {
-        Ok(n) => {
-            *written = n;
-            0
-        }
-        Err(why) => {
-            *written = 0;
-            why.number()
-        }
-    }
+    *written = 0;
+    let s = settings_of(m, log2_slice_len, ll, sb, buckets);
+    let done = write_file(s, seeds, holes, out);
+    tell(done, written)
 }
 
 // Reads a level file. 0: level has m, log2_slice_len, ll, sb, B and the hole count; else it, all seeds and all holes are 0.

@@ -10,7 +10,7 @@ ghost use Rattle.exports.specs.Told.{number_told, value_told};
 ghost use Rattle.exports.specs.Sizes.{sizes_number, sizes_after};
 
 use crate::level::settings_of;
-use crate::telling::number;
+use crate::telling::{number, tell};
 use geometry::count::bucket_count;
 use geometry::settings::check_settings;
 use geometry::shape::{geometry_of, work_words};
@@ -23,13 +23,7 @@ pub fn phastr_bucket_count(log2_slice_len: u64, keys: u64, size: f64, count: &mu
     ensures answer { result ≡ number_told (count_answer log2_slice_len keys size) }
     ensures counted { count.new ≡ value_told (count_answer log2_slice_len keys size) count.old }
 {
-    match bucket_count(log2_slice_len, keys, size) {
-        Ok(n) => {
-            *count = n;
-            0
-        }
-        Err(why) => why.number(),
-    }
+    tell(bucket_count(log2_slice_len, keys, size), count)
 }
 
 // What a sweep of a largest bucket of z keys wants lent: the work words W, the table's entries and the bitmap's words.
@@ -59,13 +53,8 @@ pub fn phastr_sizes(
     ensures answer { result ≡ sizes_number (settings_of m log2_slice_len ll sb buckets) z }
     ensures sized { sizes.new ≡ sizes_after (settings_of m log2_slice_len ll sb buckets) z sizes.old }
 {
-    match wanted(settings_of(m, log2_slice_len, ll, sb, buckets), z) {
-        Ok(words) => {
-            *sizes = words;
-            0
-        }
-        Err(why) => why.number(),
-    }
+    let s = settings_of(m, log2_slice_len, ll, sb, buckets);
+    tell(wanted(s, z), sizes)
 }
 
 // Writes the house table.

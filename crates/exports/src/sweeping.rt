@@ -7,13 +7,13 @@ ghost use Rattle.exports.specs.Level.{settings_of, how_of};
 ghost use Rattle.exports.specs.Told.{number_told, values_told, value_told, bucket_told};
 
 use crate::level::settings_of;
-use crate::telling::tell_stop;
+use crate::telling::{tell, tell_stop};
 use holes::holes;
 use rules::{Counts, How, Stop};
 use sweep::sweep;
 
 // Tells how a sweep ended: its number, and the counts or the bucket that it names.
-fn tell(outcome: Result<Counts, Stop>, counts: &mut [u64; 3], bucket: &mut u64) -> u64
+fn tell_outcome(outcome: Result<Counts, Stop>, counts: &mut [u64; 3], bucket: &mut u64) -> u64
     ensures answer { result ≡ number_told (said_outcome outcome) }
     ensures counted { counts.new ≡ values_told (said_outcome outcome) counts.old }
     ensures named { bucket.new ≡ bucket_told (said_outcome outcome) bucket.old }
@@ -77,7 +77,7 @@ pub fn phastr_sweep(
         bitmap,
         work,
     );
-    tell(record.outcome, counts, bucket)
+    tell_outcome(record.outcome, counts, bucket)
 }
 
 // Lists the unmarked slots below m. 0: count has how many there are.
@@ -86,11 +86,5 @@ pub fn phastr_holes(m: u64, bitmap: &[u64], out: &mut [u32], count: &mut u64) ->
     ensures buffer { out.new ≡ holes_out m bitmap.now out.old }
     ensures counted { count.new ≡ value_told (holes_answer m bitmap.now out.old) count.old }
 {
-    match holes(m, bitmap, out) {
-        Ok(n) => {
-            *count = n;
-            0
-        }
-        Err(why) => why.number(),
-    }
+    tell(holes(m, bitmap, out), count)
 }

@@ -1,5 +1,6 @@
 // What a call tells in numbers.
 ghost use Rattle.std.specs.Prelude.{◌≡◌};
+ghost use Rattle.std.specs.Result.{result_unwrap_or};
 ghost use Rattle.rules.specs.Answers.{refused_by, said_stop};
 ghost use Rattle.exports.specs.Told.{number_told, bucket_told};
 
@@ -11,6 +12,20 @@ pub fn number(done: Result<(), Refusal>) -> u64
 {
     match done {
         Ok(()) => 0,
+        Err(why) => why.number(),
+    }
+}
+
+// The same; what is done goes into its place.
+pub fn tell<T: Copy>(answer: Result<T, Refusal>, place: &mut T) -> u64
+    ensures number { result ≡ refused_by answer }
+    ensures value { place.new ≡ result_unwrap_or answer place.old }
+{
+    match answer {
+        Ok(value) => {
+            *place = value;
+            0
+        }
         Err(why) => why.number(),
     }
 }

@@ -1,10 +1,22 @@
 // What a ring key has to say: its place in its ring, its entry of the table and its slot at a rotation.
-ghost use Rattle.std.specs.Prelude.{◌≡◌, ◌+◌, ◌*◌, ◌/◌, ◌^◌, ◌<◌, ◌≤◌, length};
+ghost use Rattle.std.specs.Prelude.{◌≡◌, ◌+◌, ◌-◌, ◌*◌, ◌/◌, ◌^◌, ◌<◌, ◌≤◌, length};
 ghost use Rattle.rings.specs.Ring.{Shape, Word};
 ghost use Rattle.rings.specs.Keys.{place_at, entry_at, slot_at, Key, KeyRow};
 
 use crate::Ring;
 use crate::rows::{ring64, row64};
+
+// The slots before the bucket's first one from which a ring key counts its ring's first.
+const AHEAD: usize = 95;
+
+// The slot that key d's ring starts at.
+pub fn ring_start(d: u64, start: usize) -> usize
+    requires key { Key start d }
+    requires start_bound { start < 2 ^ 62 }
+    ensures { result ≡ d / 2 ^ 32 + start - 95 }
+{
+    (d / 0x1_0000_0000) as usize + start - AHEAD
+}
 
 // The place in its ring that key d takes at rotation j.
 pub fn place_of(g: Ring, d: u64, j: usize) -> usize
@@ -32,7 +44,7 @@ pub fn slot_of(g: Ring, d: u64, j: usize, start: usize) -> usize
     requires start_bound { (start < 2 ^ 62) × (j < 65536) }
     ensures { result ≡ slot_at g start d j }
 {
-    entry_of(g, d, j) + start - 95
+    entry_of(g, d, j) + start - AHEAD
 }
 
 // Bit j, for j below n: whether key d's slot at rotation 64 w + j is used.
@@ -44,7 +56,7 @@ pub fn key_row(g: Ring, used: &[u64], d: u64, start: usize, w: usize) -> u64
     ensures { KeyRow g used.now d start w result }
 {
     let x = place_of(g, d, 64 * w);
-    ring64(g, used, (d / 0x1_0000_0000) as usize + start - 95, x)
+    ring64(g, used, ring_start(d, start), x)
 }
 
 // The same at rotation 0 where n is 64: a row that is turned as a whole.
@@ -56,6 +68,6 @@ pub fn key_row_64(g: Ring, used: &[u64], d: u64, start: usize) -> u64
     ensures { KeyRow g used.now d start 0 result }
 {
     let x = ((d % 0x1_0000_0000) >> g.t) % 64;
-    let row = row64(g, used, (d / 0x1_0000_0000) as usize + start - 95);
+    let row = row64(g, used, ring_start(d, start));
     (row >> x) | (row << ((64 - x) % 64))
 }

@@ -6,7 +6,7 @@ ghost use Rattle.rings.specs.Keys.{Key};
 ghost use Rattle.rings.specs.Stream.{RingWord, RingAdded, KeyAdded};
 
 use crate::Ring;
-use crate::keys::place_of;
+use crate::keys::{place_of, ring_start};
 use crate::rows::join;
 use crate::slots::{bit_of, next_word, word_of};
 
@@ -49,7 +49,7 @@ pub fn or_key(g: Ring, work: &mut [u64], d: u64, start: usize, to: usize, count:
     requires start_bound { start < 2 ^ 62 }
     ensures { KeyAdded g work.old d start to count work.new }
 {
-    let first = (d / 0x1_0000_0000) as usize + start - 95;
+    let first = ring_start(d, start);
     let x = place_of(g, d, 0);
     or_ring(g, work, first, x, to, count);
 }

@@ -2,7 +2,7 @@ ghost use Rattle.std.specs.Prelude.{◌≡◌, ◌≤◌, ◌<◌, ◌^◌, nat_
 ghost use Rattle.window.specs.Key.{Within};
 ghost use Rattle.window_runs.specs.Sized.{Sized};
 
-// Sizes and weights from a small generator. A case has 1,400 buckets.
+// Sizes and weights from a small generator. A case has 1,400 buckets. Its kind is a number, which is printed and counted with.
 
 fn next(x: u64) -> u64
     requires { x < 2147483648 }

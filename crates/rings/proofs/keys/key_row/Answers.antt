@@ -4,4 +4,4 @@ use Rattle.rings.proofs.keys.key_row.Goals as goal
 
 pub returns : goal.returns
 returns c =
-    key_row c.requires.key c.place_of-x.ensures c.ring64.ensures
+    key_row c.requires.key c.place_of-x.ensures (rw c.ring_start.ensures at c.ring64.ensures)

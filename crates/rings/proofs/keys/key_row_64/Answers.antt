@@ -5,4 +5,4 @@ use Rattle.rings.proofs.keys.key_row_64.Goals as goal
 
 pub returns : goal.returns
 returns c =
-    key_row_64 c.requires.key c.requires.start_bound.1 (omega arith) c.row64-row.ensures
+    key_row_64 c.requires.key c.requires.start_bound.1 (omega arith) (rw c.ring_start.ensures at c.row64-row.ensures)

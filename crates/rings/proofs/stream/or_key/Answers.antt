@@ -4,4 +4,4 @@ use Rattle.rings.proofs.stream.or_key.Goals as goal
 
 pub returns : goal.returns
 returns c =
-    key_added c.requires.key c.place_of-x.ensures c.or_ring.ensures
+    key_added c.requires.key c.place_of-x.ensures (rw c.ring_start-first.ensures at c.or_ring.ensures)

@@ -12,14 +12,6 @@ loop-turn-init c =
     subst P (sym c.new-window.ensures)
     (begun c.args.weights c.args.begins.now c.weight_table-table.result c.args.lo c.args.hi c.requires.sized c.requires.within c.weight_table-table.ensures c.requires.lo_le_hi.0 c.requires.lo_le_hi.1)
 
-pub take-b-requires : goal.take-b-requires
-take-b-requires c =
-    let d = c.loop-turn.invariant in
-    record {
-      filled = record { i = d.i; lo = d.lo; hi = c.args.hi; k = d.k; ranged = d.ranged; full = c.refill.ensures d.i d.lo d.k d.ranged d.windowed };
-      large_nonzero = not_empty _ _ (sym c.is_empty.ensures.value ∙ c.if-is_empty.false);
-    }
-
 pub loop-turn-preserved : goal.loop-turn-preserved
 loop-turn-preserved c =
     let d = c.loop-turn.invariant in
