@@ -81,7 +81,7 @@ pub fn encode(value: u64, out: &mut [u8], at: usize) -> Option<usize>
     Some(put_groups(value, out, at))
 }
 
-// How many groups a number has: one, and one more for each seven bits that are left.
+// How many groups a number has: one, and one more for each seven bits that are left. No range is known before: what is left ends the loop.
 pub fn group_count(value: u64) -> usize
     ensures { result ≡ length (encoded value) }
 {
@@ -94,7 +94,7 @@ pub fn group_count(value: u64) -> usize
     count
 }
 
-// Writes the groups of a number from a place on, and answers the place after them.
+// Writes the groups of a number from a place on, and answers the place after them. What is left of it ends the loop here too.
 pub fn put_groups(value: u64, out: &mut [u8], at: usize) -> usize
     requires { at + length (encoded value) ≤ length out.old }
     ensures value { result ≡ at + length (encoded value) }

@@ -40,7 +40,7 @@ fn weight_of(n: u64) -> i64
     -1 - half
 }
 
-// The seven weights.
+// The seven weights, one by one: what std's `map` of an array promises leaves the list of its results to be proved element by element.
 pub fn weights_of(ns: &[u64]) -> [i64; 7]
     requires { 13 ≤ length ns.now }
     ensures { result ≡ weights_of ns.now }

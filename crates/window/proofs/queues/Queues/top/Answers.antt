@@ -21,35 +21,11 @@ from c = (tz_lt 64 c.args.self.now.nonempty (fits c) c.requires, tz_set 64 c.arg
 next : (c : goal.In-loop-rest) → (count_trailing_zeros 64 c.loop-rest.rest < 64) × (bit c.loop-rest.rest (count_trailing_zeros 64 c.loop-rest.rest) ≡ 1)
 next c = (tz_lt 64 c.loop-rest.rest c.loop-rest.invariant.small c.loop-rest-test.true, tz_set 64 c.loop-rest.rest c.loop-rest.invariant.small c.loop-rest-test.true)
 
-pub overflow_cast-size : goal.overflow_cast-size
-overflow_cast-size c = omega (arith, (from (goal.at.overflow_cast-size c).Start).0)
-
-pub offset_bounds-self-size : goal.offset_bounds-self-size
-offset_bounds-self-size c = omega (arith, (from (goal.at.offset_bounds-self-size c).Start).0)
-
-pub bounds-self-size : goal.bounds-self-size
-bounds-self-size c = (from (goal.at.bounds-self-size c).Start).0
-
-pub overflow_shl-rest : goal.overflow_shl-rest
-overflow_shl-rest c = (from (goal.at.overflow_shl-rest c).Start).0
-
 pub loop-rest-init : goal.loop-rest-init
 loop-rest-init c =
     let s = (goal.at.loop-rest-init c).Start in
     rw (one_shl (count_trailing_zeros 64 c.args.self.now.nonempty) (from s).0)
     (start c.args.self.now.keys c.args.self.now.nonempty (count_trailing_zeros 64 c.args.self.now.nonempty) (fits s) (from s).0 (from s).1 (record { sfits = c.best-1.given }))
-
-pub overflow_cast-s : goal.overflow_cast-s
-overflow_cast-s c = omega (arith, (next (goal.at.overflow_cast-s c).In-loop-rest).0)
-
-pub overflow_shl-rest-in-loop-rest : goal.overflow_shl-rest-in-loop-rest
-overflow_shl-rest-in-loop-rest c = (next (goal.at.overflow_shl-rest-in-loop-rest c).In-loop-rest).0
-
-pub offset_bounds-self-s : goal.offset_bounds-self-s
-offset_bounds-self-s c = omega (arith, (next (goal.at.offset_bounds-self-s c).In-loop-rest).0)
-
-pub bounds-self-s : goal.bounds-self-s
-bounds-self-s c = (next (goal.at.bounds-self-s c).In-loop-rest).0
 
 falls : (c : goal.In-loop-rest) → bit_xor c.loop-rest.rest ((1 * 2 ^ count_trailing_zeros 64 c.loop-rest.rest) % 2 ^ 64) < c.loop-rest.rest
 falls c =
