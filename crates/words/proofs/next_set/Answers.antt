@@ -11,35 +11,11 @@ returns-then-begin-end c =
     let a = c.args in
     (sym (next_none a.bits.now a.begin a.end (omega arith) (λ k h l. absurd (omega arith))), omega arith, omega arith)
 
-pub overflow_sub-last : goal.overflow_sub-last
-overflow_sub-last c = omega arith
-
-pub offset_bounds-bits-w : goal.offset_bounds-bits-w
-offset_bounds-bits-w c = omega arith
-
-pub bounds-bits-w : goal.bounds-bits-w
-bounds-bits-w c = omega arith
-
-pub overflow_shl-word : goal.overflow_shl-word
-overflow_shl-word c = omega arith
-
 pub loop-word-init : goal.loop-word-init
 loop-word-init c = scan_start_lem _ _ _ (omega arith) (c.type_inv.bits _).fits
 
 pub returns-then-w-last : goal.returns-then-w-last
 returns-then-w-last c = (sym (scan_none c.loop-word.invariant c.loop-word-test.true (omega arith)), omega arith, omega arith)
-
-pub overflow_add-w : goal.overflow_add-w
-overflow_add-w c = omega arith
-
-pub offset_bounds-bits-w-in-loop-word : goal.offset_bounds-bits-w-in-loop-word
-offset_bounds-bits-w-in-loop-word c = omega arith
-
-pub bounds-bits-w-in-loop-word : goal.bounds-bits-w-in-loop-word
-bounds-bits-w-in-loop-word c = omega arith
-
-pub loop-word-smaller : goal.loop-word-smaller
-loop-word-smaller c = omega arith
 
 pub loop-word-preserved : goal.loop-word-preserved
 loop-word-preserved c = scan_step c.loop-word.invariant c.loop-word-test.true (omega arith) (c.type_inv.bits _).fits
