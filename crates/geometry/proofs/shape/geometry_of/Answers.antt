@@ -1,9 +1,6 @@
 use Rattle.geometry.proofs.Assemble.{assemble}
-use Rattle.std.proofs.Common.{mod-lt, arith}
+use Rattle.std.proofs.Common.{arith}
 use Rattle.geometry.proofs.shape.geometry_of.Goals as goal
-
-pub fraction-requires : goal.fraction-requires
-fraction-requires c = (mod-lt c.slice_count-slices.result (omega (arith, c.requires.odd)), omega (arith, c.requires.buckets_high))
 
 pub returns : goal.returns
 returns c = assemble c.args.s _ _ _ _ _ _ _ _ _ _ _ (omega (arith, c.requires.odd)) c.slice_len-l.ensures.0 c.log2_len-log2_l.ensures.0 c.slice_count-slices.ensures.0 c.saturating_sub-scale.ensures c.power_of_two-layouts.ensures.0 c.stride_of-stride.ensures.0 c.per_bucket-per_bucket.ensures.0 c.power_of_two-span.ensures.0 c.power_of_two.ensures.0 c.fraction.ensures c.slots_of.ensures.0
