@@ -3,7 +3,7 @@ use Prim.Native.Nat.{◌+◌}
 use mathlib.Core.Path.{◌≡◌, ap}
 use native.Mathlib.Omega.{arith}
 use lib.ListN.{length}
-use lib.Count.{ones, ones-le}
+use lib.Count.{ones}
 use Rattle.holes.proofs.Walk.{rest_from, rest_all, rest_none, holes_length, count_step}
 use Rattle.holes.proofs.count_holes.Goals as goal
 use Rattle.holes.proofs.count_holes.Goals.{After-free_bits}
@@ -17,9 +17,6 @@ one_more c = rw c.free_bits.ensures (count_step _ _ _ (c.type_inv.bitmap _).fits
 
 pub loop-w-init : goal.loop-w-init
 loop-w-init c = omega (arith, ap length (rest_all c.args.m c.args.bitmap.now))
-
-pub overflow_cast-total : goal.overflow_cast-total
-overflow_cast-total c = omega (arith, ones-le 64 c.free_bits.result (omega arith))
 
 pub overflow_add-total : goal.overflow_add-total
 overflow_add-total c = omega (arith, one_more (goal.at.overflow_add-total c).After-free_bits, holes_length c.args.m c.args.bitmap.now)
