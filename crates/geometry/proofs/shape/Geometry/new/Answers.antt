@@ -1,10 +1,7 @@
 -- What is worked out one by one is rule G's number each.
 use Rattle.geometry.proofs.Assemble.{assemble}
-use Rattle.std.proofs.Common.{mod-lt, arith}
+use Rattle.std.proofs.Common.{arith}
 use Rattle.geometry.proofs.shape.Geometry.new.Goals as goal
-
-pub fraction-requires : goal.fraction-requires
-fraction-requires c = (mod-lt c.slice_count-slices.result (omega (arith, c.requires.odd)), omega (arith, c.requires.buckets_high))
 
 pub invariant_of-result : goal.invariant_of-result
 invariant_of-result c =

@@ -53,9 +53,6 @@ overflow_sub-mask c = (size (goal.at.overflow_sub-mask c).Start).l_low
 pub overflow_sub-r : goal.overflow_sub-r
 overflow_sub-r c = (size (goal.at.overflow_sub-r c).Start).layouts_low
 
-pub overflow_mul-x : goal.overflow_mul-x
-overflow_mul-x c = omega (arith, shift_small (goal.at.overflow_mul-x c).Start)
-
 pub overflow_shr-x : goal.overflow_shr-x
 overflow_shr-x c = shift_small (goal.at.overflow_shr-x c).Start
 
