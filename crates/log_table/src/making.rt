@@ -48,8 +48,11 @@ fn log_entry(d: u64) -> u32
         x: d << zeros,
         e: (63 - zeros) as u64,
     };
-    for _ in 0..SQUARINGS {
+    // The compiler unrolls this loop whole, as it does no `for`, by which a table takes a third more instructions.
+    let mut n = SQUARINGS;
+    while n > 0 {
         p = p.squared();
+        n -= 1;
     }
     ((p.e + 1) / 2) as u32
 }
