@@ -72,9 +72,8 @@ pub fn read_settings(reader: &mut Reader) -> Result<Settings, Refusal>
 
 // The version and the settings, from the start of the file. Refused: FileShort, FileVersion for another version, and what
 // `read_settings` refuses.
-fn read_head(reader: &mut Reader) -> Result<Settings, Refusal>
-    requires { reader.old.at ≡ 0 }
-    ensures value { read_as result reader.new.at ≡ head_at reader.old.bytes.now }
+pub fn read_head(reader: &mut Reader) -> Result<Settings, Refusal>
+    ensures value { reader.old.at ≡ 0 → read_as result reader.new.at ≡ head_at reader.old.bytes.now }
     ensures same { reader.new.bytes.now ≡ reader.old.bytes.now }
 {
     let version = reader.next()?;

@@ -12,14 +12,14 @@ pub returns-in_err-version-clause-value : goal.returns-in_err-version-clause-val
 unfolding read_as
 returns-in_err-version-clause-value c =
     let p = err_from_is_err_and c.from_residual.result c.from_residual.ensures.1 in
-    rw (p.1, p.2) (version_no _ _ c.requires _ (number_no _ _ _ _ refl _ c.in_err-version.ensures.value))
+    λ z. rw (p.1, p.2) (version_no _ _ z _ (number_no _ _ _ _ refl _ c.in_err-version.ensures.value))
 
 pub returns-then-version-ne-VERSION-clause-value : goal.returns-then-version-ne-VERSION-clause-value
 unfolding read_as
-returns-then-version-ne-VERSION-clause-value c = version_other _ _ c.requires _ _ (number_got _ _ _ _ refl _ c.in_ok-version.ensures.value) c.if-version-ne-VERSION.true
+returns-then-version-ne-VERSION-clause-value c = λ z. version_other _ _ z _ _ (number_got _ _ _ _ refl _ c.in_ok-version.ensures.value) c.if-version-ne-VERSION.true
 
 pub returns-clause-value : goal.returns-clause-value
-returns-clause-value c =
+returns-clause-value c = λ z.
     c.read_settings.ensures.value
     ∙ ap (λ (bytes : List ℕ). checked_at bytes c.next.new.self.at) c.in_ok-version.ensures.same
-    ∙ sym (version_one _ _ c.requires _ _ (number_got _ _ _ _ refl _ c.in_ok-version.ensures.value) c.if-version-ne-VERSION.false)
+    ∙ sym (version_one _ _ z _ _ (number_got _ _ _ _ refl _ c.in_ok-version.ensures.value) c.if-version-ne-VERSION.false)
