@@ -53,6 +53,7 @@ fn list_holes(m: usize, bitmap: &[u64], out: &mut [u32]) -> usize
     let mut n: usize = 0;
     for (w, word) in bitmap.iter().enumerate() {
         let mut free = free_bits(m, w, *word);
+        // A walk from one set bit to the next counts no index.
         while free != 0 {
             out[n] = (w * 64) as u32 + free.trailing_zeros();
             n += 1;
