@@ -10,6 +10,7 @@ ghost use Rattle.search.specs.Distinct.{is_distinct, better_distinct, best_disti
 
 use crate::look::found;
 use best::price::cost;
+use best::rows::Rows;
 use best::{Best, NOTHING};
 use rings::Ring;
 use rings::place::fits;
@@ -90,27 +91,22 @@ fn distinct_layout(
     best
 }
 
-// The best of all layouts, where one was found: layout r has the `size` keys at work[at + r size..] and the `count` free words at work[to + r count..].
-// Nothing changes.
+// The best of all layouts, where one was found. Nothing changes.
 pub fn best_distinct(
     g: Ring,
     table: &[u32],
     work: &mut [u64],
-    at: usize,
-    size: usize,
+    rows: Rows,
     start: usize,
-    to: usize,
-    count: usize,
-    layouts: usize,
 ) -> Option<Best>
-    requires { AllRows g table.now work.old at size start to count layouts }
-    ensures { Found result (best_distinct g table.now work.old at size start to count layouts) × (work.new ≡ work.old) }
+    requires { AllRows g table.now work.old rows.at rows.size start rows.to rows.count rows.layouts }
+    ensures { Found result (best_distinct g table.now work.old rows.at rows.size start rows.to rows.count rows.layouts) × (work.new ≡ work.old) }
 {
     let mut best = NOTHING;
-    for r in 0..layouts {
-        let a = at + r * size;
-        let f = to + r * count;
-        best = distinct_layout(g, table, work, a, size, start, f, count, r, best);
+    for r in 0..rows.layouts {
+        let a = rows.keys(r);
+        let f = rows.free(r);
+        best = distinct_layout(g, table, work, a, rows.size, start, f, rows.count, r, best);
     }
     found(best)
 }
