@@ -69,24 +69,24 @@ fn best_segments(
     best
 }
 
-// The free rotations of layout r, whose keys are work[a..a + size] and whose free words are work[f..f + count]; work[up..up + count] is overwritten.
+// The free rotations of layout r; as many words as it has free ones are overwritten from work[up] on.
 fn best_between(
     g: Ring,
     table: &[u32],
     work: &mut [u64],
-    a: usize,
-    size: usize,
-    f: usize,
-    count: usize,
+    rows: Rows,
     up: usize,
     r: usize,
     before: Best,
 ) -> Best
     requires shape { Shape g }
-    requires prices { Prices g table.now (part work.old a size) }
-    requires size_bound { (a + size ≤ up) × (f + count ≤ up) × (up + count ≤ length work.old) × (g.n ≤ 64 * count) }
-    ensures { (result ≡ best_from (cost_at g table.now (part work.old a size)) (is_free (part work.old f count)) r before 0 g.n) × Kept up work.old work.new }
+    requires prices { Prices g table.now (part work.old (rows.at + r * rows.size) rows.size) }
+    requires size_bound { (rows.at + r * rows.size + rows.size ≤ up) × (rows.to + r * rows.count + rows.count ≤ up) × (up + rows.count ≤ length work.old) × (g.n ≤ 64 * rows.count) }
+    ensures { (result ≡ best_from (cost_at g table.now (part work.old (rows.at + r * rows.size) rows.size)) (is_free (part work.old (rows.to + r * rows.count) rows.count)) r before 0 g.n) × Kept up work.old work.new }
 {
+    let Rows { size, count, .. } = rows;
+    let a = rows.keys(r);
+    let f = rows.free(r);
     fill_wraps(g, work, a, size, up, count);
     let v = &work[..];
     best_segments(
@@ -109,9 +109,7 @@ pub fn best_many(g: Ring, table: &[u32], work: &mut [u64], rows: Rows, up: usize
 {
     let mut best = NOTHING;
     for r in 0..rows.layouts {
-        let a = rows.keys(r);
-        let f = rows.free(r);
-        best = best_between(g, table, work, a, rows.size, f, rows.count, up, r, best);
+        best = best_between(g, table, work, rows, up, r, best);
     }
     best
 }

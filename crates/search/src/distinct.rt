@@ -1,11 +1,11 @@
 // The best rotation at which no two keys meet, found by one pass over the free ones: each is priced once, and placed on trial only where it costs less than
 // the best so far.
-ghost use Rattle.std.specs.Prelude.{◌≡◌, ◌*◌, ◌<◌};
+ghost use Rattle.std.specs.Prelude.{◌≡◌, ◌+◌, ◌*◌, ◌<◌};
 ghost use Rattle.rings.specs.Keys.{cost_at};
 ghost use Rattle.rings.specs.Parts.{part};
 ghost use Rattle.best.specs.Best.{best_from};
 ghost use Rattle.search.specs.Slots.{Unused};
-ghost use Rattle.search.specs.Rows.{Found};
+ghost use Rattle.search.specs.Rows.{row_at, Found};
 ghost use Rattle.search.specs.Distinct.{is_distinct, better_distinct, best_distinct, KeyRow, FreeRow, AllRows};
 
 use crate::look::found;
@@ -39,54 +39,50 @@ fn better_distinct(
     best
 }
 
-// The free rotations of one word: 64 w and the 63 after it.
+// The free rotations of one word of layout r: 64 w and the 63 after it.
 fn distinct_word(
     g: Ring,
     table: &[u32],
     work: &mut [u64],
-    a: usize,
-    size: usize,
+    rows: Rows,
     start: usize,
-    f: usize,
-    count: usize,
     w: usize,
     r: usize,
     mut best: Best,
 ) -> Best
-    requires key_row { KeyRow g table.now work.old a size start }
-    requires free_row { FreeRow g work.old a size start f count }
-    requires w_lt_count { w < count }
-    ensures { (result ≡ best_from (cost_at g table.now (part work.old a size)) (is_distinct g start (part work.old a size) (part work.old f count)) r best (64 * w) 64) × (work.new ≡ work.old) }
+    requires key_row { KeyRow g table.now work.old (rows.at + r * rows.size) rows.size start }
+    requires free_row { FreeRow g work.old (rows.at + r * rows.size) rows.size start (rows.to + r * rows.count) rows.count }
+    requires w_lt_count { w < rows.count }
+    ensures { (result ≡ best_from (cost_at g table.now (row_at work.old rows.at rows.size r)) (is_distinct g start (row_at work.old rows.at rows.size r) (row_at work.old rows.to rows.count r)) r best (64 * w) 64) × (work.new ≡ work.old) }
 {
-    // A walk from one to one of the word counts no index.
+    let a = rows.keys(r);
+    let f = rows.free(r);
     let mut left = work[f + w];
+    // A walk from one to one of the word counts no index.
     while left != 0 {
         let j = 64 * w + left.trailing_zeros() as usize;
-        best = better_distinct(g, table, work, a, size, start, r, j, best);
+        best = better_distinct(g, table, work, a, rows.size, start, r, j, best);
         left &= left - 1;
     }
     best
 }
 
-// The free rotations of layout r: its keys are work[a..a + size], its free words work[f..f + count].
+// The free rotations of layout r.
 fn distinct_layout(
     g: Ring,
     table: &[u32],
     work: &mut [u64],
-    a: usize,
-    size: usize,
+    rows: Rows,
     start: usize,
-    f: usize,
-    count: usize,
     r: usize,
     mut best: Best,
 ) -> Best
-    requires key_row { KeyRow g table.now work.old a size start }
-    requires free_row { FreeRow g work.old a size start f count }
-    ensures { (result ≡ best_from (cost_at g table.now (part work.old a size)) (is_distinct g start (part work.old a size) (part work.old f count)) r best 0 g.n) × (work.new ≡ work.old) }
+    requires key_row { KeyRow g table.now work.old (rows.at + r * rows.size) rows.size start }
+    requires free_row { FreeRow g work.old (rows.at + r * rows.size) rows.size start (rows.to + r * rows.count) rows.count }
+    ensures { (result ≡ best_from (cost_at g table.now (row_at work.old rows.at rows.size r)) (is_distinct g start (row_at work.old rows.at rows.size r) (row_at work.old rows.to rows.count r)) r best 0 g.n) × (work.new ≡ work.old) }
 {
-    for w in 0..count {
-        best = distinct_word(g, table, work, a, size, start, f, count, w, r, best);
+    for w in 0..rows.count {
+        best = distinct_word(g, table, work, rows, start, w, r, best);
     }
     best
 }
@@ -104,9 +100,7 @@ pub fn best_distinct(
 {
     let mut best = NOTHING;
     for r in 0..rows.layouts {
-        let a = rows.keys(r);
-        let f = rows.free(r);
-        best = distinct_layout(g, table, work, a, rows.size, start, f, rows.count, r, best);
+        best = distinct_layout(g, table, work, rows, start, r, best);
     }
     found(best)
 }
