@@ -69,7 +69,7 @@ fn best_segments(
     best
 }
 
-// The free rotations of layout r; as many words as it has free ones are overwritten from work[up] on.
+// The free rotations of layout r; work[up..up + rows.count] is overwritten.
 fn best_between(
     g: Ring,
     table: &[u32],
@@ -100,7 +100,7 @@ fn best_between(
     )
 }
 
-// The best free rotation of all layouts; as many words as a layout has free ones are overwritten from work[up] on.
+// The best free rotation of all layouts; work[up..up + rows.count] is overwritten.
 pub fn best_many(g: Ring, table: &[u32], work: &mut [u64], rows: Rows, up: usize) -> Best
     requires shape { Shape g }
     requires prices { Prices g table.now (part work.old rows.at (rows.layouts * rows.size)) }

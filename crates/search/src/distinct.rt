@@ -9,6 +9,7 @@ ghost use Rattle.search.specs.Rows.{row_at, Found};
 ghost use Rattle.search.specs.Distinct.{is_distinct, better_distinct, best_distinct, KeyRow, FreeRow, AllRows};
 
 use crate::look::found;
+use crate::row::Row;
 use best::price::cost;
 use best::rows::Rows;
 use best::{Best, NOTHING};
@@ -20,20 +21,18 @@ fn better_distinct(
     g: Ring,
     table: &[u32],
     work: &mut [u64],
-    a: usize,
-    size: usize,
-    start: usize,
+    row: Row,
     r: usize,
     j: usize,
     best: Best,
 ) -> Best
-    requires key_row { KeyRow g table.now work.old a size start }
+    requires key_row { KeyRow g table.now work.old row.a row.size row.start }
     requires j_lt_n { j < g.n }
-    requires unused { Unused g work.old start (part work.old a size) j }
-    ensures { (result ≡ better_distinct g table.now start (part work.old a size) r j best) × (work.new ≡ work.old) }
+    requires unused { Unused g work.old row.start (part work.old row.a row.size) j }
+    ensures { (result ≡ better_distinct g table.now row.start (part work.old row.a row.size) r j best) × (work.new ≡ work.old) }
 {
-    let c = cost(g, table, &work[a..a + size], j);
-    if c < best.cost && fits(g, work, a, size, start, j) {
+    let c = cost(g, table, &work[row.a..row.a + row.size], j);
+    if c < best.cost && fits(g, work, row.a, row.size, row.start, j) {
         return Best { cost: c, r, j };
     }
     best
@@ -56,12 +55,17 @@ fn distinct_word(
     ensures { (result ≡ best_from (cost_at g table.now (row_at work.old rows.at rows.size r)) (is_distinct g start (row_at work.old rows.at rows.size r) (row_at work.old rows.to rows.count r)) r best (64 * w) 64) × (work.new ≡ work.old) }
 {
     let a = rows.keys(r);
+    let row = Row {
+        a,
+        size: rows.size,
+        start,
+    };
     let f = rows.free(r);
     let mut left = work[f + w];
     // A walk from one to one of the word counts no index.
     while left != 0 {
         let j = 64 * w + left.trailing_zeros() as usize;
-        best = better_distinct(g, table, work, a, rows.size, start, r, j, best);
+        best = better_distinct(g, table, work, row, r, j, best);
         left &= left - 1;
     }
     best

@@ -16,12 +16,14 @@ ghost use Rattle.search.specs.WorkMap.{Retrying, Retried};
 pub mod distinct;
 pub mod look;
 pub mod prepare;
+pub mod row;
 pub mod settle;
 pub mod usual;
 
 use crate::distinct::best_distinct;
 use crate::look::{best_free, free_words};
 use crate::prepare::prepare;
+use crate::row::Row;
 use crate::settle::{seed_of, settle};
 use best::rows::Rows;
 use geometry::shape::Geometry;
@@ -50,7 +52,12 @@ fn search_distinct(
         return 0;
     };
     let a = rows.keys(best.r);
-    settle(ring, work, a, rows.size, start, best.j, bitmap);
+    let row = Row {
+        a,
+        size: rows.size,
+        start,
+    };
+    settle(ring, work, row, best.j, bitmap);
     seed_of(ring, rows.layouts, best.r, best.j)
 }
 
@@ -88,7 +95,8 @@ pub fn search(
         return 0;
     };
     let a = rows.keys(best.r);
-    if settle(ring, work, a, size, start, best.j, bitmap) {
+    let row = Row { a, size, start };
+    if settle(ring, work, row, best.j, bitmap) {
         return seed_of(ring, layouts, best.r, best.j);
     }
     search_distinct(ring, table, keys, start, rows, mid, bitmap, work)

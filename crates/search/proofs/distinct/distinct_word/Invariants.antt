@@ -8,7 +8,7 @@ use Rattle.search.specs.Distinct.{is_distinct}
 use Rattle.search.proofs.distinct.distinct_word.Given as goal
 
 abbrev pub invariant-loop-left : goal.invariant-loop-left
-invariant-loop-left l = (l.work ≡ l.initial.work) × Walk (cost_at l.g l.table (row_at l.initial.work l.rows.at l.rows.size l.r)) (is_distinct l.g l.start (row_at l.initial.work l.rows.at l.rows.size l.r) (row_at l.initial.work l.rows.to l.rows.count l.r)) (row_at l.initial.work l.rows.to l.rows.count l.r) l.r l.w l.initial.best l.left l.best
+invariant-loop-left l = (l.work ≡ l.initial.work) × Walk (cost_at l.g l.table (row_at l.initial.work l.fn.rows.at l.fn.rows.size l.r)) (is_distinct l.g l.start (row_at l.initial.work l.fn.rows.at l.fn.rows.size l.r) (row_at l.initial.work l.fn.rows.to l.fn.rows.count l.r)) (row_at l.initial.work l.fn.rows.to l.fn.rows.count l.r) l.r l.w l.initial.best l.left l.best
 
 abbrev pub decreases-loop-left : goal.decreases-loop-left
 decreases-loop-left l = l.left
