@@ -8,6 +8,7 @@ ghost use Rattle.best.specs.Looking.{Looking};
 
 use crate::Best;
 use crate::listed::{best_sized, list_words, rotation_of};
+use crate::rows::Rows;
 use rings::Ring;
 
 // The best number of a rotation as its layout and its rotation there.
@@ -23,26 +24,15 @@ fn layout_of(best: Best, shift: usize) -> Best
     }
 }
 
-// The best free rotation of all layouts, `total` of which are free. Layout r has the `size` keys at work[at + r size..] and the `count` free words at
-// work[to + r count..]; twice as many words behind the last of these are overwritten.
-pub fn best_all(
-    g: Ring,
-    table: &[u32],
-    work: &mut [u64],
-    at: usize,
-    size: usize,
-    to: usize,
-    count: usize,
-    layouts: usize,
-    total: u64,
-) -> Best
-    requires { Looking g table.now work.old at size to count layouts total }
-    ensures { (result ≡ best_free g table.now (part work.old at (layouts * size)) size (part work.old to (layouts * count)) count layouts) × Kept (to + layouts * count) work.old work.new }
+// The best free rotation of all layouts, `total` of which are free. Twice as many words as the free ones, behind the last of these, are overwritten.
+pub fn best_all(g: Ring, table: &[u32], work: &mut [u64], rows: Rows, total: u64) -> Best
+    requires { Looking g table.now work.old rows.at rows.size rows.to rows.count rows.layouts total }
+    ensures { (result ≡ best_free g table.now (part work.old rows.at (rows.layouts * rows.size)) rows.size (part work.old rows.to (rows.layouts * rows.count)) rows.count rows.layouts) × Kept (rows.to + rows.layouts * rows.count) work.old work.new }
 {
-    let bits = layouts * count;
-    let list = to + bits;
-    list_words(work, to, bits, list);
-    let shift = count.trailing_zeros() as usize + 6;
-    let best = best_sized(g, table, work, at, size, shift, list, total);
+    let bits = rows.layouts * rows.count;
+    let list = rows.to + bits;
+    list_words(work, rows.to, bits, list);
+    let shift = rows.count.trailing_zeros() as usize + 6;
+    let best = best_sized(g, table, work, rows.at, rows.size, shift, list, total);
     layout_of(best, shift)
 }

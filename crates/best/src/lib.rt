@@ -5,6 +5,7 @@ pub mod all;
 pub mod listed;
 pub mod many;
 pub mod price;
+pub mod rows;
 pub mod wraps;
 
 // Rotation j of layout r and what it costs.

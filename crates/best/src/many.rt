@@ -10,6 +10,7 @@ ghost use Rattle.best.specs.Wraps.{Points};
 ghost use Rattle.best.specs.Segments.{Rises};
 
 use crate::price::better_of;
+use crate::rows::Rows;
 use crate::wraps::fill_wraps;
 use crate::{Best, NOTHING};
 use rings::Ring;
@@ -68,24 +69,24 @@ fn best_segments(
     best
 }
 
-// The free rotations of layout r, whose keys are work[a..a + size] and whose free words are work[f..f + count]; work[up..up + count] is overwritten.
+// The free rotations of layout r; work[up..up + rows.count] is overwritten.
 fn best_between(
     g: Ring,
     table: &[u32],
     work: &mut [u64],
-    a: usize,
-    size: usize,
-    f: usize,
-    count: usize,
+    rows: Rows,
     up: usize,
     r: usize,
     before: Best,
 ) -> Best
     requires shape { Shape g }
-    requires prices { Prices g table.now (part work.old a size) }
-    requires size_bound { (a + size ≤ up) × (f + count ≤ up) × (up + count ≤ length work.old) × (g.n ≤ 64 * count) }
-    ensures { (result ≡ best_from (cost_at g table.now (part work.old a size)) (is_free (part work.old f count)) r before 0 g.n) × Kept up work.old work.new }
+    requires prices { Prices g table.now (part work.old (rows.at + r * rows.size) rows.size) }
+    requires size_bound { (rows.at + r * rows.size + rows.size ≤ up) × (rows.to + r * rows.count + rows.count ≤ up) × (up + rows.count ≤ length work.old) × (g.n ≤ 64 * rows.count) }
+    ensures { (result ≡ best_from (cost_at g table.now (part work.old (rows.at + r * rows.size) rows.size)) (is_free (part work.old (rows.to + r * rows.count) rows.count)) r before 0 g.n) × Kept up work.old work.new }
 {
+    let Rows { size, count, .. } = rows;
+    let a = rows.keys(r);
+    let f = rows.free(r);
     fill_wraps(g, work, a, size, up, count);
     let v = &work[..];
     best_segments(
@@ -99,38 +100,16 @@ fn best_between(
     )
 }
 
-// The best free rotation of all layouts. Layout r has the `size` keys at work[at + r size..] and the `count` free words at work[to + r count..];
-// work[up..up + count] is overwritten.
-pub fn best_many(
-    g: Ring,
-    table: &[u32],
-    work: &mut [u64],
-    at: usize,
-    size: usize,
-    to: usize,
-    count: usize,
-    up: usize,
-    layouts: usize,
-) -> Best
+// The best free rotation of all layouts; work[up..up + rows.count] is overwritten.
+pub fn best_many(g: Ring, table: &[u32], work: &mut [u64], rows: Rows, up: usize) -> Best
     requires shape { Shape g }
-    requires prices { Prices g table.now (part work.old at (layouts * size)) }
-    requires size_bound { (at + layouts * size ≤ to) × (to + layouts * count ≤ up) × (up + count ≤ length work.old) × (g.n ≤ 64 * count) }
-    ensures { (result ≡ best_free g table.now (part work.old at (layouts * size)) size (part work.old to (layouts * count)) count layouts) × Kept up work.old work.new }
+    requires prices { Prices g table.now (part work.old rows.at (rows.layouts * rows.size)) }
+    requires size_bound { (rows.at + rows.layouts * rows.size ≤ rows.to) × (rows.to + rows.layouts * rows.count ≤ up) × (up + rows.count ≤ length work.old) × (g.n ≤ 64 * rows.count) }
+    ensures { (result ≡ best_free g table.now (part work.old rows.at (rows.layouts * rows.size)) rows.size (part work.old rows.to (rows.layouts * rows.count)) rows.count rows.layouts) × Kept up work.old work.new }
 {
     let mut best = NOTHING;
-    for r in 0..layouts {
-        best = best_between(
-            g,
-            table,
-            work,
-            at + r * size,
-            size,
-            to + r * count,
-            count,
-            up,
-            r,
-            best,
-        );
+    for r in 0..rows.layouts {
+        best = best_between(g, table, work, rows, up, r, best);
     }
     best
 }

@@ -9,6 +9,7 @@ ghost use Rattle.search.specs.Rows.{FreeWords, Found};
 
 use best::all::best_all;
 use best::many::best_many;
+use best::rows::Rows;
 use best::{Best, NOTHING};
 use rings::Ring;
 
@@ -34,29 +35,15 @@ pub fn found(best: Best) -> Option<Best>
     }
 }
 
-// The best free rotation, where one is free. Layout r has the `size` keys at work[at + r size..] and the `count` free words at work[to + r count..]; the
-// words behind the last of these are scratch, and `total` rotations are free. Where these are few all of them are priced, else the first free one of each
-// segment between wrap points.
-pub fn best_free(
-    g: Ring,
-    table: &[u32],
-    work: &mut [u64],
-    at: usize,
-    size: usize,
-    to: usize,
-    count: usize,
-    layouts: usize,
-    total: u64,
-) -> Option<Best>
-    requires { Looking g table.now work.old at size to count layouts total }
-    ensures { Found result (best_free g table.now (part work.old at (layouts * size)) size (part work.old to (layouts * count)) count layouts) × Kept (to + layouts * count) work.old work.new }
+// The best free rotation, where one is free: `total` are, and the words behind the last free ones are scratch. Where these rotations are few all of them are
+// priced, else the first free one of each segment between wrap points.
+pub fn best_free(g: Ring, table: &[u32], work: &mut [u64], rows: Rows, total: u64) -> Option<Best>
+    requires { Looking g table.now work.old rows.at rows.size rows.to rows.count rows.layouts total }
+    ensures { Found result (best_free g table.now (part work.old rows.at (rows.layouts * rows.size)) rows.size (part work.old rows.to (rows.layouts * rows.count)) rows.count rows.layouts) × Kept (rows.to + rows.layouts * rows.count) work.old work.new }
 {
     match total {
         0 => None,
-        1..=FEW => found(best_all(g, table, work, at, size, to, count, layouts, total)),
-        _ => {
-            let up = to + layouts * count;
-            found(best_many(g, table, work, at, size, to, count, up, layouts))
-        }
+        1..=FEW => found(best_all(g, table, work, rows, total)),
+        _ => found(best_many(g, table, work, rows, rows.end())),
     }
 }

@@ -4,96 +4,63 @@ ghost use Rattle.rings.specs.Parts.{part};
 ghost use Rattle.rings.specs.Place.{unmarked_to};
 ghost use Rattle.search.specs.Settle.{Settling, MarkedBoth, Blank, Settled, SeedIs, cleared_to};
 
+use crate::row::Row;
 use crate::usual::{literal_ring, usual_ring};
 use rings::Ring;
 use rings::keys::slot_of;
 use rings::marks::{take_slot, unmark};
 
-// Marks the slots of the keys work[a..a + size] at rotation j, in the ring and in the bitmap, one after the other, up to one that is marked already; tells how
-// many.
-fn mark_both(
-    g: Ring,
-    work: &mut [u64],
-    a: usize,
-    size: usize,
-    start: usize,
-    j: usize,
-    bitmap: &mut [u64],
-) -> usize
-    requires { Settling g work.old a size start j bitmap.old }
-    ensures { MarkedBoth g work.old bitmap.old (part work.old a size) start j size result work.new bitmap.new }
+// Marks the slots of a layout's keys at rotation j, in the ring and in the bitmap, one after the other, up to one that is marked already; tells how many.
+fn mark_both(g: Ring, work: &mut [u64], row: Row, j: usize, bitmap: &mut [u64]) -> usize
+    requires { Settling g work.old row.a row.size row.start j bitmap.old }
+    ensures { MarkedBoth g work.old bitmap.old (part work.old row.a row.size) row.start j row.size result work.new bitmap.new }
 {
-    for i in 0..size {
-        let p = slot_of(g, work[a + i], j, start);
+    for i in 0..row.size {
+        let p = slot_of(g, work[row.a + i], j, row.start);
         if !take_slot(g, work, p) {
             return i;
         }
         words::set_bit(bitmap, p);
     }
-    size
+    row.size
 }
 
 // The same; the default shape's numbers are literals.
-fn mark_slots(
-    g: Ring,
-    work: &mut [u64],
-    a: usize,
-    size: usize,
-    start: usize,
-    j: usize,
-    bitmap: &mut [u64],
-) -> usize
-    requires { Settling g work.old a size start j bitmap.old }
-    ensures { MarkedBoth g work.old bitmap.old (part work.old a size) start j size result work.new bitmap.new }
+fn mark_slots(g: Ring, work: &mut [u64], row: Row, j: usize, bitmap: &mut [u64]) -> usize
+    requires { Settling g work.old row.a row.size row.start j bitmap.old }
+    ensures { MarkedBoth g work.old bitmap.old (part work.old row.a row.size) row.start j row.size result work.new bitmap.new }
 {
     if usual_ring(g) {
-        return mark_both(literal_ring(g), work, a, size, start, j, bitmap);
+        return mark_both(literal_ring(g), work, row, j, bitmap);
     }
-    mark_both(g, work, a, size, start, j, bitmap)
+    mark_both(g, work, row, j, bitmap)
 }
 
 // Unmarks the slots of the first `count` of these keys, from the last to the first.
-fn unmark_both(
-    g: Ring,
-    work: &mut [u64],
-    a: usize,
-    size: usize,
-    start: usize,
-    j: usize,
-    count: usize,
-    bitmap: &mut [u64],
-)
-    requires settling { Settling g work.old a size start j bitmap.old }
-    requires count_le_size { count ≤ size }
-    ensures { (work.new ≡ unmarked_to g work.old (part work.old a size) start j count) × (bitmap.new ≡ cleared_to g bitmap.old (part work.old a size) start j count) }
+fn unmark_both(g: Ring, work: &mut [u64], row: Row, j: usize, count: usize, bitmap: &mut [u64])
+    requires settling { Settling g work.old row.a row.size row.start j bitmap.old }
+    requires count_le_size { count ≤ row.size }
+    ensures { (work.new ≡ unmarked_to g work.old (part work.old row.a row.size) row.start j count) × (bitmap.new ≡ cleared_to g bitmap.old (part work.old row.a row.size) row.start j count) }
 {
     for i in (0..count).rev() {
-        let p = slot_of(g, work[a + i], j, start);
+        let p = slot_of(g, work[row.a + i], j, row.start);
         unmark(g, work, p);
         words::clear_bit(bitmap, p);
     }
 }
 
-// Marks the slots of the keys work[a..a + size] at rotation j, in the ring and in the bitmap, and tells, as a set's `insert` does, that it did; where two keys
-// meet nothing changes.
-pub fn settle(
-    g: Ring,
-    work: &mut [u64],
-    a: usize,
-    size: usize,
-    start: usize,
-    j: usize,
-    bitmap: &mut [u64],
-) -> bool
-    requires settling { Settling g work.old a size start j bitmap.old }
-    requires blank { Blank g bitmap.old (part work.old a size) start j }
-    ensures { Settled g work.old bitmap.old (part work.old a size) start j size result work.new bitmap.new }
+// Marks the slots of a layout's keys at rotation j, in the ring and in the bitmap, and tells, as a set's `insert` does, that it did; where two keys meet nothing
+// changes.
+pub fn settle(g: Ring, work: &mut [u64], row: Row, j: usize, bitmap: &mut [u64]) -> bool
+    requires settling { Settling g work.old row.a row.size row.start j bitmap.old }
+    requires blank { Blank g bitmap.old (part work.old row.a row.size) row.start j }
+    ensures { Settled g work.old bitmap.old (part work.old row.a row.size) row.start j row.size result work.new bitmap.new }
 {
-    let k = mark_slots(g, work, a, size, start, j, bitmap);
-    if k == size {
+    let k = mark_slots(g, work, row, j, bitmap);
+    if k == row.size {
         return true;
     }
-    unmark_both(g, work, a, size, start, j, k, bitmap);
+    unmark_both(g, work, row, j, k, bitmap);
     false
 }
 

@@ -43,14 +43,8 @@ returns-in_default c = λ i marked first q.
     let d = code_laid q c.first-start.ensures.0 c.free_words-count.ensures c.prepare-total.ensures refl none.1 in
     best_zero d.laid d.is c.args.work.now d.len (λ n. (c.type_inv.table n).fits) none.0
 
-pub overflow_mul-a : goal.overflow_mul-a
-overflow_mul-a c = let q = c.requires.ready in
-    let k = c.prepare-total.ensures in
-    let d = code_laid q c.first-start.ensures.0 c.free_words-count.ensures k c.in-Some.ensures.0.0 c.in-Some.ensures.1 in
-    omega (arith, ((laid_rows d.laid).keys _ (best_in d.laid d.is c.in-Some.ensures.0.1).0).room, d.len)
-
-pub overflow_add-a : goal.overflow_add-a
-overflow_add-a c = let q = c.requires.ready in
+pub keys-a-requires : goal.keys-a-requires
+keys-a-requires c = let q = c.requires.ready in
     let k = c.prepare-total.ensures in
     let d = code_laid q c.first-start.ensures.0 c.free_words-count.ensures k c.in-Some.ensures.0.0 c.in-Some.ensures.1 in
     omega (arith, ((laid_rows d.laid).keys _ (best_in d.laid d.is c.in-Some.ensures.0.1).0).room, d.len)
@@ -61,10 +55,12 @@ settle-requires c =
     let f = c.in-Some.best in
     let d = code_laid q c.first-start.ensures.0 c.free_words-count.ensures c.prepare-total.ensures c.in-Some.ensures.0.0 c.in-Some.ensures.1 in
     let n = best_in d.laid d.is c.in-Some.ensures.0.1 in
+    rw c.keys-a.ensures (
     record {
       settling = laid_settling d.laid f.r f.j n.0 n.1;
       blank = best_blank d.laid d.is c.in-Some.ensures.0.1;
     }
+    )
 
 pub seed_of-requires : goal.seed_of-requires
 seed_of-requires c = let q = c.requires.ready in
@@ -75,13 +71,16 @@ seed_of-requires c = let q = c.requires.ready in
 pub returns-then-settle : goal.returns-then-settle
 returns-then-settle c = λ i marked first q. let k = c.prepare-total.ensures in
     let d = code_laid q c.first-start.ensures.0 c.free_words-count.ensures k c.in-Some.ensures.0.0 c.in-Some.ensures.1 in
-    best_placed d.laid d.is c.args.work.now d.len c.in-Some.ensures.0.1 c.settle.ensures c.if-settle.true c.seed_of.ensures
+    best_placed d.laid d.is c.args.work.now d.len c.in-Some.ensures.0.1 (rw c.keys-a.ensures at c.settle.ensures) c.if-settle.true c.seed_of.ensures
 
 pub search_distinct-requires : goal.search_distinct-requires
 search_distinct-requires c = let p = c.requires in
     let n = c.settle.ensures.no c.if-settle.false in
     let d = code_laid p.ready c.first-start.ensures.0 c.free_words-count.ensures c.prepare-total.ensures c.in-Some.ensures.0.0 c.in-Some.ensures.1 in
-    rw (n.0, n.1) (record { i = p.i; marked = p.marked; first = p.first; b = c.args.b; laid = d.laid })
+    record {
+      retrying = rw (n.0, n.1) (record { i = p.i; marked = p.marked; first = p.first; b = c.args.b; laid = d.laid });
+      size = refl;
+    }
 
 pub returns : goal.returns
 returns c = λ i marked first q. let k = c.prepare-total.ensures in

@@ -13,12 +13,12 @@ best_between-best-requires c =
     let p = c.requires.size_bound in
     let lt = c.loop-r-test.true in
     let r = c.loop-r.r in
-    let k = row_le r c.args.layouts c.args.size lt in
-    let f = row_le r c.args.layouts c.args.count lt in
+    let k = row_le r c.args.rows.layouts c.args.rows.size lt in
+    let f = row_le r c.args.rows.layouts c.args.rows.count lt in
     record {
       shape = c.requires.shape;
-      prices = rw (layout_part c.args.at c.args.size c.args.layouts r (c.args.at + r * c.args.size) c.loop-r.invariant.1 (omega arith) lt refl)
-          (prices_layout c.args.size c.args.layouts r c.requires.prices (length_part c.args.work.now c.args.at (c.args.layouts * c.args.size) (omega arith)) lt);
+      prices = rw (layout_part c.args.rows.at c.args.rows.size c.args.rows.layouts r (c.args.rows.at + r * c.args.rows.size) c.loop-r.invariant.1 (omega arith) lt refl)
+          (prices_layout c.args.rows.size c.args.rows.layouts r c.requires.prices (length_part c.args.work.now c.args.rows.at (c.args.rows.layouts * c.args.rows.size) (omega arith)) lt);
       size_bound = (omega arith, omega arith, omega (arith, c.loop-r.invariant.1.len), p.3);
     }
 
@@ -29,8 +29,8 @@ loop-r-preserved c =
     let k = c.loop-r.invariant.1 in
     let r = c.loop-r.r in (
       trying_more c.loop-r.invariant.0 lt
-          (layout_part c.args.at c.args.size c.args.layouts r (c.args.at + r * c.args.size) k (omega arith) lt refl)
-          (layout_part c.args.to c.args.count c.args.layouts r (c.args.to + r * c.args.count) k (omega arith) lt refl)
+          (layout_part c.args.rows.at c.args.rows.size c.args.rows.layouts r (c.args.rows.at + r * c.args.rows.size) k (omega arith) lt refl)
+          (layout_part c.args.rows.to c.args.rows.count c.args.rows.layouts r (c.args.rows.to + r * c.args.rows.count) k (omega arith) lt refl)
           e.0,
       kept_on k e.1,
     )

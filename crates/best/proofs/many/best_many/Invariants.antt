@@ -6,4 +6,4 @@ use Rattle.best.specs.Layouts.{Trying}
 use Rattle.best.proofs.many.best_many.Given as goal
 
 abbrev pub invariant-loop-r : goal.invariant-loop-r
-invariant-loop-r l = (Trying l.g l.table (part l.initial.work l.at (l.layouts * l.size)) l.size (part l.initial.work l.to (l.layouts * l.count)) l.count l.layouts l.r l.best × Kept l.up l.initial.work l.work)
+invariant-loop-r l = (Trying l.g l.table (part l.initial.work l.rows.at (l.rows.layouts * l.rows.size)) l.rows.size (part l.initial.work l.rows.to (l.rows.layouts * l.rows.count)) l.rows.count l.rows.layouts l.r l.best × Kept l.up l.initial.work l.work)

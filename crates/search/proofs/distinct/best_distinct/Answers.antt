@@ -8,4 +8,4 @@ loop-r-init c = (refl, rows_none _ _ _ _ _ _ _ _)
 
 pub loop-r-preserved : goal.loop-r-preserved
 loop-r-preserved c =
-    (c.distinct_layout-best.ensures.1 ∙ c.loop-r.invariant.0, rows_more c.args.g c.args.table.now c.args.work.now c.args.at c.args.size c.args.start c.args.to c.args.count c.loop-r.r c.loop-r.invariant.1 (rw c.loop-r.invariant.0 at c.distinct_layout-best.ensures.0))
+    (c.distinct_layout-best.ensures.1 ∙ c.loop-r.invariant.0, rows_more c.args.g c.args.table.now c.args.work.now c.args.rows.at c.args.rows.size c.args.start c.args.rows.to c.args.rows.count c.loop-r.r c.loop-r.invariant.1 (rw c.loop-r.invariant.0 at c.distinct_layout-best.ensures.0))

@@ -4,4 +4,4 @@ use Rattle.search.specs.Distinct.{best_distinct}
 use Rattle.search.proofs.distinct.best_distinct.Given as goal
 
 abbrev pub invariant-loop-r : goal.invariant-loop-r
-invariant-loop-r l = (l.work ≡ l.initial.work) × (l.best ≡ best_distinct l.g l.table l.initial.work l.at l.size l.start l.to l.count l.r)
+invariant-loop-r l = (l.work ≡ l.initial.work) × (l.best ≡ best_distinct l.g l.table l.initial.work l.rows.at l.rows.size l.start l.rows.to l.rows.count l.r)

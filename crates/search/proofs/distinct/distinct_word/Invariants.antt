@@ -2,13 +2,13 @@
 -- Assumes nothing.
 use mathlib.Core.Path.{◌≡◌}
 use Rattle.rings.specs.Keys.{cost_at}
-use Rattle.rings.specs.Parts.{part}
 use Rattle.best.specs.Walk.{Walk}
+use Rattle.search.specs.Rows.{row_at}
 use Rattle.search.specs.Distinct.{is_distinct}
 use Rattle.search.proofs.distinct.distinct_word.Given as goal
 
 abbrev pub invariant-loop-left : goal.invariant-loop-left
-invariant-loop-left l = (l.work ≡ l.initial.work) × Walk (cost_at l.g l.table (part l.initial.work l.a l.size)) (is_distinct l.g l.start (part l.initial.work l.a l.size) (part l.initial.work l.f l.count)) (part l.initial.work l.f l.count) l.r l.w l.initial.best l.left l.best
+invariant-loop-left l = (l.work ≡ l.initial.work) × Walk (cost_at l.g l.table (row_at l.initial.work l.fn.rows.at l.fn.rows.size l.r)) (is_distinct l.g l.start (row_at l.initial.work l.fn.rows.at l.fn.rows.size l.r) (row_at l.initial.work l.fn.rows.to l.fn.rows.count l.r)) (row_at l.initial.work l.fn.rows.to l.fn.rows.count l.r) l.r l.w l.initial.best l.left l.best
 
 abbrev pub decreases-loop-left : goal.decreases-loop-left
 decreases-loop-left l = l.left

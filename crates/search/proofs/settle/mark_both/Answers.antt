@@ -9,14 +9,14 @@ use Rattle.search.proofs.settle.mark_both.Goals as goal
 pub loop-i-init : goal.loop-i-init
 loop-i-init c = (marking_none _ _ _ _ _ _, mapping_none _ _ _ _ _)
 
-pub overflow_add-a : goal.overflow_add-a
-overflow_add-a c = let l = c.loop-i.invariant in let h = c.loop-i-test.true in omega (arith, l.0.len)
+pub overflow_add-row : goal.overflow_add-row
+overflow_add-row c = let l = c.loop-i.invariant in let h = c.loop-i-test.true in omega (arith, l.0.len)
 
-pub offset_bounds-work-a : goal.offset_bounds-work-a
-offset_bounds-work-a c = let l = c.loop-i.invariant in let h = c.loop-i-test.true in omega (arith, l.0.len)
+pub offset_bounds-work-row : goal.offset_bounds-work-row
+offset_bounds-work-row c = let l = c.loop-i.invariant in let h = c.loop-i-test.true in omega (arith, l.0.len)
 
-pub bounds-work-a : goal.bounds-work-a
-bounds-work-a c = let l = c.loop-i.invariant in let h = c.loop-i-test.true in omega (arith, l.0.len)
+pub bounds-work-row : goal.bounds-work-row
+bounds-work-row c = let l = c.loop-i.invariant in let h = c.loop-i-test.true in omega (arith, l.0.len)
 
 pub slot_of-p-requires : goal.slot_of-p-requires
 slot_of-p-requires c =
@@ -45,10 +45,10 @@ pub returns-then-not-take_slot : goal.returns-then-not-take_slot
 returns-then-not-take_slot c = let l = c.loop-i.invariant in let h = c.loop-i-test.true in record { ring = marking_met c.requires.shape l.0 c.requires.above h c.slot_of-p.ensures c.take_slot.ensures c.if-not-take_slot.true; map = l.1.is }
 
 pub set_bit-requires : goal.set_bit-requires
-set_bit-requires c = let l = c.loop-i.invariant in let h = c.loop-i-test.true in let e = slot_is c.requires.shape l.0 c.requires.above h c.slot_of-p.ensures in omega (arith, e, c.requires.inside c.loop-i.i (omega (arith, length_part c.args.work.now c.args.a c.args.size c.requires.room)), l.1.len)
+set_bit-requires c = let l = c.loop-i.invariant in let h = c.loop-i-test.true in let e = slot_is c.requires.shape l.0 c.requires.above h c.slot_of-p.ensures in omega (arith, e, c.requires.inside c.loop-i.i (omega (arith, length_part c.args.work.now c.args.row.a c.args.row.size c.requires.room)), l.1.len)
 
 pub loop-i-preserved : goal.loop-i-preserved
-loop-i-preserved c = let l = c.loop-i.invariant in let h = c.loop-i-test.true in (marking_more c.requires.shape l.0 c.requires.above h c.slot_of-p.ensures c.take_slot.ensures c.if-not-take_slot.false, mapping_more l.1 (omega (arith, length_part c.args.work.now c.args.a c.args.size c.requires.room)) (slot_is c.requires.shape l.0 c.requires.above h c.slot_of-p.ensures) c.set_bit.ensures)
+loop-i-preserved c = let l = c.loop-i.invariant in let h = c.loop-i-test.true in (marking_more c.requires.shape l.0 c.requires.above h c.slot_of-p.ensures c.take_slot.ensures c.if-not-take_slot.false, mapping_more l.1 (omega (arith, length_part c.args.work.now c.args.row.a c.args.row.size c.requires.room)) (slot_is c.requires.shape l.0 c.requires.above h c.slot_of-p.ensures) c.set_bit.ensures)
 
 pub shape_of-work : goal.shape_of-work
 shape_of-work c = c.loop-i.invariant.0.len
@@ -58,5 +58,5 @@ shape_of-bitmap c = c.loop-i.invariant.1.len
 
 pub returns : goal.returns
 returns c =
-    let e : c.loop-i.i ≡ c.args.size = omega arith in
+    let e : c.loop-i.i ≡ c.args.row.size = omega arith in
     record { ring = rw e at (marking_all c.loop-i.invariant.0 c.loop-i-test.false); map = rw e at c.loop-i.invariant.1.is }

@@ -5,4 +5,4 @@ use Rattle.rings.specs.PlaceLaws.{Marking, Mapping}
 use Rattle.search.proofs.settle.mark_both.Given as goal
 
 abbrev pub invariant-loop-i : goal.invariant-loop-i
-invariant-loop-i l = Marking l.g l.initial.work l.a l.size l.start l.j l.i l.work × Mapping l.g l.initial.bitmap (part l.initial.work l.a l.size) l.start l.j l.i l.bitmap
+invariant-loop-i l = Marking l.g l.initial.work l.row.a l.row.size l.row.start l.j l.i l.work × Mapping l.g l.initial.bitmap (part l.initial.work l.row.a l.row.size) l.row.start l.j l.i l.bitmap

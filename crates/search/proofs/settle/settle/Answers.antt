@@ -12,8 +12,8 @@ use Rattle.search.proofs.settle.settle.Goals as goal
 pub mark_slots-k-requires : goal.mark_slots-k-requires
 mark_slots-k-requires c = c.requires.settling
 
-pub returns-then-k-size : goal.returns-then-k-size
-returns-then-k-size c = let m = c.mark_slots-k.ensures in settled_yes m c.if-k-size.true
+pub returns-then-k-row : goal.returns-then-k-row
+returns-then-k-row c = let m = c.mark_slots-k.ensures in settled_yes m c.if-k-row.true
 
 pub unmark_both-requires : goal.unmark_both-requires
 unmark_both-requires c =
@@ -23,4 +23,4 @@ unmark_both-requires c =
     }
 
 pub returns : goal.returns
-returns c = let e : part c.mark_slots-k.new.work c.args.a c.args.size ≡ part c.args.work.now c.args.a c.args.size = part_marked_to c.args.g c.requires.settling.shape _ _ _ _ _ c.args.a c.args.size c.requires.settling.above c.mark_slots-k.ensures.ring.is in let u = c.unmark_both.ensures in settled_no c.mark_slots-k.ensures c.requires.settling (λ k. (c.slice_known-1.given k).fits) (λ k. (c.slice_known-2-1.given k).fits) c.requires.blank c.if-k-size.false (u.0 ∙ ap (λ (x : List ℕ). unmarked_to c.args.g c.mark_slots-k.new.work x c.args.start c.args.j c.mark_slots-k.result) e) (u.1 ∙ rw (e, c.mark_slots-k.ensures.map) refl)
+returns c = let e : part c.mark_slots-k.new.work c.args.row.a c.args.row.size ≡ part c.args.work.now c.args.row.a c.args.row.size = part_marked_to c.args.g c.requires.settling.shape _ _ _ _ _ c.args.row.a c.args.row.size c.requires.settling.above c.mark_slots-k.ensures.ring.is in let u = c.unmark_both.ensures in settled_no c.mark_slots-k.ensures c.requires.settling (λ k. (c.slice_known-1.given k).fits) (λ k. (c.slice_known-2-1.given k).fits) c.requires.blank c.if-k-row.false (u.0 ∙ ap (λ (x : List ℕ). unmarked_to c.args.g c.mark_slots-k.new.work x c.args.row.start c.args.j c.mark_slots-k.result) e) (u.1 ∙ rw (e, c.mark_slots-k.ensures.map) refl)
