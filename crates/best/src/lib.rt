@@ -16,7 +16,7 @@ pub struct Best {
     pub j: usize,
 }
 
-// No rotation found yet: none costs as much. With an Option<Best> the step of `best_listed` takes 38 instructions in place of 36.
+// Where the look for the least begins: no rotation costs as much. An Option would be no plainer in the loops, and the callers above get one.
 pub const NOTHING: Best = Best {
     cost: u64::MAX,
     r: 0,
