@@ -4,7 +4,7 @@
 // 101 of those with the fixed seed.
 #![tactic(auto)]
 
-use comparing::{Tally, held, number};
+use comparing::{Comparison, number};
 use geometry::settings::check_settings;
 use geometry::shape::Geometry;
 use rules::Settings;
@@ -24,77 +24,64 @@ fn settings() -> Settings {
     }
 }
 
-fn figures(g: Geometry, i: u64, t0: Tally) -> Tally {
-    let t = held(t0, i, b"l", g.l, number());
-    let t = held(t, i, b"ns", g.slices, number());
-    let t = held(t, i, b"scale", g.scale, number());
-    let t = held(t, i, b"L", g.layouts, number());
-    let t = held(t, i, b"t", g.stride, number());
-    let t = held(t, i, b"n", g.ring, number());
-    let t = held(t, i, b"R", g.rotations, number());
-    let t = held(t, i, b"Q's high word", g.q_hi, number());
-    let t = held(t, i, b"Q's low word", g.q_lo, number());
-    let t = held(t, i, b"p", g.per_bucket, number());
-    let t = held(t, i, b"ring slots", g.slots, number());
-    held(t, i, b"table entries", g.entries, number())
+fn figures<R: Print>(c: &mut Comparison<R>, g: Geometry) {
+    c.held("l", g.l, number());
+    c.held("ns", g.slices, number());
+    c.held("scale", g.scale, number());
+    c.held("L", g.layouts, number());
+    c.held("t", g.stride, number());
+    c.held("n", g.ring, number());
+    c.held("R", g.rotations, number());
+    c.held("Q's high word", g.q_hi, number());
+    c.held("Q's low word", g.q_lo, number());
+    c.held("p", g.per_bucket, number());
+    c.held("ring slots", g.slots, number());
+    c.held("table entries", g.entries, number());
 }
 
-fn work(g: Geometry, i: u64, t: Tally) -> Tally {
+fn work<R: Print>(c: &mut Comparison<R>, g: Geometry) {
     let z = number().min(4096);
-    held(t, i, b"W", g.work_words(z), number())
+    c.held("W", g.work_words(z), number());
 }
 
-fn one_first(g: Geometry, i: u64, t: Tally) -> Tally {
-    let b = number().min(g.settings.buckets);
-    held(t, i, b"first", g.first(b), number())
-}
-
-fn one_place(g: Geometry, i: u64, t0: Tally) -> Tally {
-    let h = number();
-    let seed = (number() % 65536) as u16;
-    let t = held(t0, i, b"bucket", g.bucket_of(h), number());
-    let t = held(t, i, b"slice", g.slice_of(h), number());
-    let t = held(t, i, b"offset", g.offset_of(h), number());
-    held(t, i, b"position", g.position(h, seed), number())
-}
-
-// Compares as many times as the number read says.
-fn repeated<F: Fn(Tally) -> Tally>(t0: Tally, compare: F) -> Tally
-    requires { F.IsAlwaysCallable compare }
-{
-    let mut t = t0;
+fn firsts<R: Print>(c: &mut Comparison<R>, g: Geometry) {
     for _ in 0..number() {
-        t = compare(t);
+        let b = number().min(g.settings.buckets);
+        c.held("first", g.first(b), number());
     }
-    t
 }
 
-fn numbers(g: Geometry, i: u64, t: Tally) -> Tally {
-    let t = work(g, i, figures(g, i, t));
-    let t = repeated(t, |t| one_first(g, i, t));
-    repeated(t, |t| one_place(g, i, t))
+fn places<R: Print>(c: &mut Comparison<R>, g: Geometry) {
+    for _ in 0..number() {
+        let h = number();
+        let seed = (number() % 65536) as u16;
+        c.held("bucket", g.bucket_of(h), number());
+        c.held("slice", g.slice_of(h), number());
+        c.held("offset", g.offset_of(h), number());
+        c.held("position", g.position(h, seed), number());
+    }
 }
 
 // One case. The Rust is asked only where the checks pass, so a number that refuses is a difference.
-fn case(i: u64, t0: Tally) -> Tally {
+fn case<R: Print>(c: &mut Comparison<R>) {
     let s = settings();
-    match check_settings(s) {
-        Ok(()) => numbers(Geometry::new(s), i, held(t0, i, b"refused", 0, 0)),
-        Err(why) => held(t0, i, b"refused", why.number(), 0),
+    if let Err(why) = check_settings(s) {
+        c.held("refused", why.number(), 0);
+        return;
     }
+    let g = Geometry::new(s);
+    c.held("refused", 0, 0);
+    figures(c, g);
+    work(c, g);
+    firsts(c, g);
+    places(c, g);
 }
 
-fn cases(count: u64) -> Tally {
-    let mut t = Tally {
-        compared: 0,
-        differ: 0,
-    };
-    for i in 0..count {
-        t = case(i, t);
+fn main(rt: HostRuntime) {
+    let mut c = Comparison::new(&rt);
+    for i in 0..number() {
+        c.case = i;
+        case(&mut c);
     }
-    t
-}
-
-fn main() {
-    comparing::close(cases(number()));
+    c.close();
 }

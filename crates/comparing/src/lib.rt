@@ -33,42 +33,47 @@ pub struct Tally {
     pub differ: u64,
 }
 
-// Says that the numbers of a case differ, unless ten were told already.
-fn say(told: u64, case: u64, name: &[u8], here: u64, rust: u64) {
-    if 10 <= told {
-        return;
-    }
-    io::write_all(1, b"case ");
-    io::print_decimal(1, case);
-    io::write_all(1, b", ");
-    io::write_all(1, name);
-    io::write_all(1, b": here ");
-    io::print_decimal(1, here);
-    io::write_all(1, b", the Rust ");
-    io::print_decimal(1, rust);
-    io::write_all(1, b"\n");
+// A comparison under way: where it tells of differences, the case that it is at, and the tally.
+pub struct Comparison<'a, R: Print> {
+    rt: &'a R,
+    pub case: u64,
+    pub tally: Tally,
 }
 
-// Compares our number with the Rust's, and says so of the first ten that differ.
-#[tactic(auto, unfolding(crate::specs::Tallied::tallied))]
-pub fn held(t: Tally, case: u64, name: &[u8], here: u64, rust: u64) -> Tally
-    ensures { result ≡ tallied t here rust }
-{
-    let compared = t.compared.wrapping_add(1);
-    if here == rust {
-        return Tally { compared, ..t };
+impl<'a, R: Print> Comparison<'a, R> {
+    pub fn new(rt: &'a R) -> Comparison<'a, R> {
+        let tally = Tally {
+            compared: 0,
+            differ: 0,
+        };
+        Comparison { rt, case: 0, tally }
     }
-    say(t.differ, case, name, here, rust);
-    Tally {
-        compared,
-        differ: t.differ.wrapping_add(1),
-    }
-}
 
-// The last line of a comparison.
-pub fn close(t: Tally) {
-    io::print_decimal(1, t.compared);
-    io::write_all(1, b" compared, ");
-    io::print_decimal(1, t.differ);
-    io::write_all(1, b" differ\n");
+    // Compares our number with the Rust's, and says so of the first ten that differ.
+    #[tactic(auto, unfolding(crate::specs::Tallied::tallied))]
+    pub fn held(&mut self, name: &str, here: u64, rust: u64)
+        ensures { self.new.tally ≡ tallied self.old.tally here rust }
+    {
+        let t = self.tally;
+        let compared = t.compared.wrapping_add(1);
+        if here == rust {
+            self.tally = Tally { compared, ..t };
+            return;
+        }
+        if t.differ < 10 {
+            let case = self.case;
+            let _ = println!(self.rt; "case {case}, {name}: here {here}, the Rust {rust}");
+        }
+        self.tally = Tally {
+            compared,
+            differ: t.differ.wrapping_add(1),
+        };
+    }
+
+    // Ends with the last line, which no program can leave out, since nothing else lets a comparison go.
+    pub fn close(self) {
+        let Comparison { rt, case: _, tally } = self;
+        let Tally { compared, differ } = tally;
+        let _ = println!(rt; "{compared} compared, {differ} differ");
+    }
 }

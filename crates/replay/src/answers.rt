@@ -1,7 +1,7 @@
 // Our answers to a case beside the Rust's, which come next on standard input.
 use crate::reading::number;
 use crate::rubbish::nonzero;
-use comparing::{Tally, held};
+use comparing::Comparison;
 use holes::holes;
 use rules::{Counts, Stop};
 
@@ -39,16 +39,16 @@ fn counted(c: Counts, size: u64, seed: u16) -> Counts {
 }
 
 // The record's counts are those of the seeds.
-fn counts_held(i: u64, c: Counts, begins: &[u32], seeds: &[u16], t: Tally) -> Tally {
+fn counts_held<R: Print>(c: &mut Comparison<R>, counts: Counts, begins: &[u32], seeds: &[u16]) {
     let mut sums = NO_KEYS;
     for (b, seed) in seeds.iter().enumerate() {
         let b = b as u64;
         let size = at(begins, b.wrapping_add(1)).saturating_sub(at(begins, b));
         sums = counted(sums, size, *seed);
     }
-    let t = held(t, i, b"keys placed", c.placed, sums.placed);
-    let t = held(t, i, b"keys bumped", c.bumped, sums.bumped);
-    held(t, i, b"buckets with seed 0", c.zero, sums.zero)
+    c.held("keys placed", counts.placed, sums.placed);
+    c.held("keys bumped", counts.bumped, sums.bumped);
+    c.held("buckets with seed 0", counts.zero, sums.zero);
 }
 
 const NO_KEYS: Counts = Counts {
@@ -58,69 +58,63 @@ const NO_KEYS: Counts = Counts {
 };
 
 // How many numbers there are, and each.
-fn all_held<T: Copy + Drop + Into<u64>>(
-    i: u64,
-    count: &[u8],
-    each: &[u8],
+fn all_held<R: Print, T: Copy + Drop + Into<u64>>(
+    c: &mut Comparison<R>,
+    count: &str,
+    each: &str,
     xs: &[T],
-    t: Tally,
-) -> Tally {
-    let mut t = held(t, i, count, xs.len() as u64, number());
+) {
+    c.held(count, xs.len() as u64, number());
     for x in xs {
-        t = held(t, i, each, (*x).into(), number());
+        c.held(each, (*x).into(), number());
     }
-    t
 }
 
 // The holes, each of the Rust's as its difference from the one before.
-fn places_held(i: u64, places: &[u32], count: u64, t: Tally) -> Tally {
-    let mut t = t;
+fn places_held<R: Print>(c: &mut Comparison<R>, places: &[u32], count: u64) {
     let mut place: u64 = 0;
     for k in 0..count {
         place = place.wrapping_add(number());
-        t = held(t, i, b"hole", at(places, k), place);
+        c.held("hole", at(places, k), place);
     }
-    t
 }
 
-fn holes_held(i: u64, m: u64, bitmap: &[u64], places: &mut [u32], t: Tally) -> Tally {
+fn holes_held<R: Print>(c: &mut Comparison<R>, m: u64, bitmap: &[u64], places: &mut [u32]) {
     let count = number();
-    let t = match holes(m, bitmap, places) {
-        Ok(n) => held(t, i, b"holes", n, count),
-        Err(why) => held(t, i, b"holes refused", why.number(), 0),
-    };
-    places_held(i, places, count, t)
+    match holes(m, bitmap, places) {
+        Ok(n) => c.held("holes", n, count),
+        Err(why) => c.held("holes refused", why.number(), 0),
+    }
+    places_held(c, places, count);
 }
 
 // The Rust swept all: the record, the seeds, the bitmap and the holes.
-pub fn done_held(
-    i: u64,
+pub fn done_held<R: Print>(
+    c: &mut Comparison<R>,
     m: u64,
     outcome: Result<Counts, Stop>,
     begins: &[u32],
     seeds: &[u16],
     bitmap: &[u64],
     places: &mut [u32],
-    t: Tally,
-) -> Tally {
-    let t = held(t, i, b"refused", refused_by(outcome), 0);
-    let t = counts_held(i, outcome.unwrap_or(NO_KEYS), begins, seeds, t);
-    let t = all_held(i, b"seeds", b"seed", seeds, t);
-    let t = all_held(i, b"bitmap words", b"bitmap word", bitmap, t);
-    holes_held(i, m, bitmap, places, t)
+) {
+    c.held("refused", refused_by(outcome), 0);
+    counts_held(c, outcome.unwrap_or(NO_KEYS), begins, seeds);
+    all_held(c, "seeds", "seed", seeds);
+    all_held(c, "bitmap words", "bitmap word", bitmap);
+    holes_held(c, m, bitmap, places);
 }
 
 // The Rust stopped at a bucket: the record, and that seeds and bitmap are zero.
-pub fn stopped_held(
-    i: u64,
+pub fn stopped_held<R: Print>(
+    c: &mut Comparison<R>,
     refused: u64,
     outcome: Result<Counts, Stop>,
     seeds: &[u16],
     bitmap: &[u64],
-    t: Tally,
-) -> Tally {
-    let t = held(t, i, b"refused", refused_by(outcome), refused);
-    let t = held(t, i, b"bucket", named_by(outcome), number());
-    let t = held(t, i, b"seeds left", nonzero(seeds), 0);
-    held(t, i, b"bitmap words left", nonzero(bitmap), 0)
+) {
+    c.held("refused", refused_by(outcome), refused);
+    c.held("bucket", named_by(outcome), number());
+    c.held("seeds left", nonzero(seeds), 0);
+    c.held("bitmap words left", nonzero(bitmap), 0);
 }

@@ -9,22 +9,14 @@ mod rubbish;
 
 use answers::{done_held, stopped_held};
 use checks::check_all;
-use comparing::{Tally, held};
+use comparing::Comparison;
 use list_input::{bump_of, settings_of, weights_of};
 use rules::{How, Refusal, Settings};
 use sweep::sweep;
 
-// What was compared, and how many cases were too large.
-#[derive(Clone, Copy)]
-struct Replayed {
-    tally: Tally,
-    large: u64,
-}
-
 // What a sweep is given, and the number by which the Rust refused, or 0.
 #[derive(Clone, Copy)]
 struct Case<'a> {
-    number: u64,
     settings: Settings,
     weights: [i64; 7],
     how: How,
@@ -34,27 +26,16 @@ struct Case<'a> {
     refused: u64,
 }
 
-fn too_large(i: u64, refused: u64, so_far: Replayed) -> Replayed {
-    reading::skip_answer(refused);
-    io::write_all(1, b"case ");
-    io::print_decimal(1, i);
-    io::write_all(1, b": too large\n");
-    Replayed {
-        large: so_far.large.wrapping_add(1),
-        ..so_far
-    }
-}
-
 // The sweep of a case, and the Rust's answer. Of the work it needs `used` words, and gets a few more.
-fn swept(
+fn swept<R: Print>(
+    c: &mut Comparison<R>,
     case: Case,
     seeds: &mut [u16],
     bitmap: &mut [u64],
     work: &mut [u64],
     places: &mut [u32],
     used: u64,
-    t: Tally,
-) -> Tally {
+) {
     rubbish::in_seeds(seeds);
     rubbish::in_words(bitmap);
     rubbish::in_words(work);
@@ -70,33 +51,23 @@ fn swept(
         work,
     )
     .outcome;
-    let i = case.number;
-    let left = rubbish::worked(work, used);
-    let t = held(t, i, b"work words wrong", left, 0);
+    c.held("work words wrong", rubbish::worked(work, used), 0);
     if case.refused != 0 {
-        return stopped_held(i, case.refused, here, seeds, bitmap, t);
+        stopped_held(c, case.refused, here, seeds, bitmap);
+    } else {
+        done_held(c, case.settings.m, here, case.begins, seeds, bitmap, places);
     }
-    done_held(
-        i,
-        case.settings.m,
-        here,
-        case.begins,
-        seeds,
-        bitmap,
-        places,
-        t,
-    )
 }
 
-// A case whose hashes, begins, seeds and bitmap have room: the work must have, too.
-fn fitted(
+// A case whose hashes, begins, seeds and bitmap have room: the work must have, too. Whether it has.
+fn fitted<R: Print>(
+    c: &mut Comparison<R>,
     case: Case,
     seeds: &mut [u16],
     bitmap: &mut [u64],
     work: &mut [u64],
     places: &mut [u32],
-    so_far: Replayed,
-) -> Replayed {
+) -> bool {
     let size = work.len();
     let used = match check_all(
         case.settings,
@@ -110,18 +81,18 @@ fn fitted(
         size,
     ) {
         Ok(room) => room.words,
-        Err(Refusal::Lengths) => return too_large(case.number, case.refused, so_far),
+        Err(Refusal::Lengths) => return false,
         Err(_) => 0,
     };
     let lent = used.wrapping_add(8).min(size as u64) as usize;
     let work = &mut work[..lent];
-    let tally = swept(case, seeds, bitmap, work, places, used, so_far.tally);
-    Replayed { tally, ..so_far }
+    swept(c, case, seeds, bitmap, work, places, used);
+    true
 }
 
-// Reads a case and replays it.
-fn one_case(
-    number: u64,
+// Reads a case and replays it, or passes over its answer where there is no room for it. Whether there is.
+fn one_case<R: Print>(
+    c: &mut Comparison<R>,
     table: &[u32],
     hashes: &mut [u64],
     begins: &mut [u32],
@@ -129,8 +100,7 @@ fn one_case(
     bitmap: &mut [u64],
     work: &mut [u64],
     places: &mut [u32],
-    so_far: Replayed,
-) -> Replayed {
+) -> bool {
     let head = reading::head();
     let settings = settings_of(&head);
     let buckets = settings.buckets as usize;
@@ -145,10 +115,10 @@ fn one_case(
         && slots <= places.len()
         && words <= bitmap.len();
     if !fits {
-        return too_large(number, refused, so_far);
+        reading::skip_answer(refused);
+        return false;
     }
     let case = Case {
-        number,
         settings,
         weights: weights_of(&head),
         how: How {
@@ -162,10 +132,17 @@ fn one_case(
     };
     let seeds = &mut seeds[..buckets];
     let bitmap = &mut bitmap[..words];
-    fitted(case, seeds, bitmap, work, places, so_far)
+    let fits = fitted(c, case, seeds, bitmap, work, places);
+    if !fits {
+        reading::skip_answer(refused);
+    }
+    fits
 }
 
-fn cases(
+// Replays so many cases, and gives how many of them were too large.
+fn cases<R: Print>(
+    rt: &R,
+    c: &mut Comparison<R>,
     count: u64,
     table: &[u32],
     hashes: &mut [u64],
@@ -174,23 +151,19 @@ fn cases(
     bitmap: &mut [u64],
     work: &mut [u64],
     places: &mut [u32],
-) -> Replayed {
-    let mut so_far = Replayed {
-        tally: Tally {
-            compared: 0,
-            differ: 0,
-        },
-        large: 0,
-    };
+) -> u64 {
+    let mut large: u64 = 0;
     for i in 0..count {
-        so_far = one_case(
-            i, table, hashes, begins, seeds, bitmap, work, places, so_far,
-        );
+        c.case = i;
+        if !one_case(c, table, hashes, begins, seeds, bitmap, work, places) {
+            let _ = println!(rt; "case {i}: too large");
+            large = large.wrapping_add(1);
+        }
     }
-    so_far
+    large
 }
 
-fn main() {
+fn main(rt: HostRuntime) {
     let mut table = [0u32; 131072];
     let mut hashes = [0u64; 131072];
     let mut begins = [0u32; 65537];
@@ -200,7 +173,10 @@ fn main() {
     let mut places = [0u32; 262144];
     reading::table(&mut table);
     let count = reading::number();
-    let all = cases(
+    let mut c = Comparison::new(&rt);
+    let large = cases(
+        &rt,
+        &mut c,
         count,
         &table,
         &mut hashes,
@@ -210,9 +186,6 @@ fn main() {
         &mut work,
         &mut places,
     );
-    io::print_decimal(1, count);
-    io::write_all(1, b" cases, ");
-    io::print_decimal(1, all.large);
-    io::write_all(1, b" too large\n");
-    comparing::close(all.tally);
+    let _ = println!(rt; "{count} cases, {large} too large");
+    c.close();
 }

@@ -3,9 +3,13 @@ ghost use Rattle.std.specs.Prelude.{◌≤◌, ◌<◌};
 
 use rules::{How, Settings, SweepRecord};
 
-fn put(x: u64) {
-    io::write_all(1, b" ");
-    io::print_decimal(1, x);
+// A name, and the numbers of a buffer.
+fn put<T: Copy + Drop + Into<u64>>(rt: &impl Print, name: &str, xs: &[T]) {
+    let _ = print!(rt; " {name}");
+    for x in xs {
+        let x: u64 = (*x).into();
+        let _ = print!(rt; " {x}");
+    }
 }
 
 // Where the words that are x, from `from` on, end.
@@ -18,59 +22,37 @@ fn end_of(xs: &[u64; 15200], from: usize, x: u64) -> usize {
     xs.len()
 }
 
-fn put_seeds(xs: [u16; 6]) {
-    io::write_all(1, b" seeds");
-    for x in xs {
-        put(u64::from(x));
-    }
-}
-
-fn put_bitmap(xs: [u64; 4]) {
-    io::write_all(1, b" bitmap");
-    for x in xs {
-        put(x);
-    }
-}
-
 // Where the zeros that work opens with end, and where the rubbish after them ends.
-fn put_work(xs: &[u64; 15200]) {
+fn put_work(rt: &impl Print, xs: &[u64; 15200]) {
     let zeros = end_of(xs, 0, 0);
-    io::write_all(1, b" work");
-    put(zeros as u64);
-    put(end_of(xs, zeros, 0xffff_ffff_ffff_ffff) as u64);
-    io::write_all(1, b"\n");
+    let rubbish = end_of(xs, zeros, 0xffff_ffff_ffff_ffff);
+    let _ = println!(rt; " work {zeros} {rubbish}");
 }
 
-fn put_settings(s: Settings, how: How) {
-    io::print_decimal(1, s.m);
-    put(s.log2_slice_len);
-    put(s.ll);
-    put(s.sb);
-    put(s.buckets);
-    put(u64::from(how.bump));
-    put(how.chunks);
+fn put_settings(rt: &impl Print, s: Settings, how: How) {
+    let bump = u64::from(how.bump);
+    let _ = print!(rt;
+        "{} {} {} {} {} {bump} {}",
+        s.m, s.log2_slice_len, s.ll, s.sb, s.buckets, how.chunks
+    );
 }
 
-fn put_record(r: SweepRecord) {
-    match r.outcome {
-        Ok(c) => {
-            io::write_all(1, b" done");
-            put(c.placed);
-            put(c.bumped);
-            put(c.zero);
-        }
+fn put_record(rt: &impl Print, r: SweepRecord) {
+    let _ = match r.outcome {
+        Ok(c) => print!(rt; " done {} {} {}", c.placed, c.bumped, c.zero),
         Err(stop) => {
-            io::write_all(1, b" refused");
-            put(stop.why.number());
-            if let Some(b) = stop.bucket {
-                put(b);
+            let why = stop.why.number();
+            match stop.bucket {
+                None => print!(rt; " refused {why}"),
+                Some(b) => print!(rt; " refused {why} {b}"),
             }
         }
-    }
+    };
 }
 
 // Sweeps and writes the line up to the answer.
 fn run(
+    rt: &impl Print,
     s: Settings,
     weights: [i64; 7],
     how: How,
@@ -81,14 +63,18 @@ fn run(
     bitmap: &mut [u64],
     work: &mut [u64],
 ) {
-    put_settings(s, how);
-    put(hashes.len() as u64);
-    put(begins.len() as u64);
-    put(table.len() as u64);
-    put(seeds.len() as u64);
-    put(bitmap.len() as u64);
-    put(work.len() as u64);
-    put_record(sweep::sweep(s, weights, how, hashes, begins, table, seeds, bitmap, work));
+    put_settings(rt, s, how);
+    let _ = print!(rt;
+        " {} {} {} {} {} {}",
+        hashes.len(),
+        begins.len(),
+        table.len(),
+        seeds.len(),
+        bitmap.len(),
+        work.len()
+    );
+    let record = sweep::sweep(s, weights, how, hashes, begins, table, seeds, bitmap, work);
+    put_record(rt, record);
 }
 
 // In one chunk.
@@ -109,6 +95,7 @@ pub fn level(m: u64, sb: u64, buckets: u64) -> Settings {
 
 // One case, with so many entries of the table, and buffers of these lengths.
 pub fn case(
+    rt: &impl Print,
     s: Settings,
     weights: [i64; 7],
     how: How,
@@ -126,6 +113,7 @@ pub fn case(
     let mut marked = [999u64; 4];
     let mut worked = [0xffff_ffff_ffff_ffffu64; 15200];
     run(
+        rt,
         s,
         weights,
         how,
@@ -136,7 +124,7 @@ pub fn case(
         &mut marked[..bitmap],
         &mut worked[..work],
     );
-    put_seeds(given);
-    put_bitmap(marked);
-    put_work(&worked);
+    put(rt, "seeds", &given);
+    put(rt, "bitmap", &marked);
+    put_work(rt, &worked);
 }

@@ -9,8 +9,8 @@ mod lending;
 mod numbers;
 mod sheets;
 
-fn main() {
-    numbers::all();
-    inputs::all();
-    sheets::all();
+fn main(rt: HostRuntime) {
+    numbers::all(&rt);
+    inputs::all(&rt);
+    sheets::all(&rt);
 }

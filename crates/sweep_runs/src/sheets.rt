@@ -3,8 +3,9 @@ use super::lending::{case, in_one, level};
 use rules::Settings;
 
 // P3 to P7: one bucket.
-fn one_bucket(m: u64, sb: u64, bump: bool, hashes: &[u64], begins: &[u32]) {
+fn one_bucket(rt: &impl Print, m: u64, sb: u64, bump: bool, hashes: &[u64], begins: &[u32]) {
     case(
+        rt,
         level(m, sb, 1),
         [0i64; 7],
         in_one(bump),
@@ -19,8 +20,9 @@ fn one_bucket(m: u64, sb: u64, bump: bool, hashes: &[u64], begins: &[u32]) {
 }
 
 // P8 and P9: the listing's input.
-fn listing(weight: i64) {
+fn listing(rt: &impl Print, weight: i64) {
     case(
+        rt,
         level(7, 4, 3),
         [weight, 0, 0, 0, 0, 0, 0],
         in_one(true),
@@ -39,7 +41,7 @@ fn listing(weight: i64) {
 }
 
 // 130 slots, two layouts, and equal keys in bucket 3.
-fn three_words(bump: bool) {
+fn three_words(rt: &impl Print, bump: bool) {
     let s = Settings {
         m: 130,
         log2_slice_len: 5,
@@ -65,6 +67,7 @@ fn three_words(bump: bool) {
         0xfedc_ba98_7654_3210,
     ];
     case(
+        rt,
         s,
         [500, 1500, 2500, 3500, 4500, 5500, 6500],
         in_one(bump),
@@ -78,22 +81,22 @@ fn three_words(bump: bool) {
     );
 }
 
-pub fn all() {
+pub fn all(rt: &impl Print) {
     // P3, P4, P5
-    one_bucket(7, 4, true, &[0], &[0, 1]);
-    one_bucket(7, 4, true, &[0, 0x4000_0000_0000_0003], &[0, 2]);
-    one_bucket(7, 4, true, &[0, 0], &[0, 2]);
-    one_bucket(7, 4, false, &[0, 0], &[0, 2]);
+    one_bucket(rt, 7, 4, true, &[0], &[0, 1]);
+    one_bucket(rt, 7, 4, true, &[0, 0x4000_0000_0000_0003], &[0, 2]);
+    one_bucket(rt, 7, 4, true, &[0, 0], &[0, 2]);
+    one_bucket(rt, 7, 4, false, &[0, 0], &[0, 2]);
     // bumping forbidden where none is bumped
-    one_bucket(7, 4, false, &[0, 0x4000_0000_0000_0003], &[0, 2]);
+    one_bucket(rt, 7, 4, false, &[0, 0x4000_0000_0000_0003], &[0, 2]);
     // P6, P7
-    one_bucket(7, 2, true, &[0], &[0, 1]);
-    one_bucket(1, 4, true, &[0], &[0, 1]);
+    one_bucket(rt, 7, 2, true, &[0], &[0, 1]);
+    one_bucket(rt, 1, 4, true, &[0], &[0, 1]);
     // P8, P9
-    listing(0);
-    listing(2048);
+    listing(rt, 0);
+    listing(rt, 2048);
     // no keys
-    one_bucket(7, 4, false, &[], &[0, 0]);
-    three_words(true);
-    three_words(false);
+    one_bucket(rt, 7, 4, false, &[], &[0, 0]);
+    three_words(rt, true);
+    three_words(rt, false);
 }

@@ -7,33 +7,26 @@ ghost use Rattle.std.specs.Prelude.{◌≤◌, ◌<◌};
 mod made;
 mod turns;
 
-fn put(x: u64) {
-    io::write_all(1, b" ");
-    io::print_decimal(1, x);
-}
-
 // One case: the buckets from lo up to hi of 1,400.
-fn case(seed: u64, kind: u64, lo: usize, hi: usize)
+fn case(rt: &impl Print, seed: u64, kind: u64, lo: usize, hi: usize)
     requires { (seed < 1000) × ((kind < 5) × ((lo ≤ hi) × (hi ≤ 1400))) }
 {
     let mut begins = [0u32; 1401];
     made::begins(&mut begins, seed, kind);
     let weights = made::weights(seed, (seed + kind) % 3);
-    io::print_decimal(1, seed);
-    put(kind);
-    io::write_all(1, b":");
-    turns::order(&begins, weights, lo, hi);
-    io::write_all(1, b"\n");
+    let _ = print!(rt; "{seed} {kind}:");
+    turns::order(rt, &begins, weights, lo, hi);
+    let _ = println!(rt);
 }
 
-fn main() {
+fn main(rt: HostRuntime) {
     for seed in 0..3u64 {
         for kind in 0..5u64 {
-            case(seed, kind, 0, 1400);
+            case(&rt, seed, kind, 0, 1400);
         }
     }
     // ranges: one that starts and ends inside, one about 1,024, an empty one
-    case(3, 4, 300, 1300);
-    case(4, 0, 1000, 1050);
-    case(5, 1, 7, 7);
+    case(&rt, 3, 4, 300, 1300);
+    case(&rt, 4, 0, 1000, 1050);
+    case(&rt, 5, 1, 7, 7);
 }

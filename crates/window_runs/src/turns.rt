@@ -6,7 +6,7 @@ use window::Window;
 use window::rule::weight_table;
 
 // The order of the buckets from lo up to hi: turn after turn, writes the bucket that the window takes.
-pub fn order(begins: &[u32], weights: [i64; 7], lo: usize, hi: usize)
+pub fn order(rt: &impl Print, begins: &[u32], weights: [i64; 7], lo: usize, hi: usize)
     requires sized { Sized begins.now }
     requires within { Within weights }
     requires lo_le_hi { (lo ≤ hi) × (hi ≤ 1400) }
@@ -19,6 +19,6 @@ pub fn order(begins: &[u32], weights: [i64; 7], lo: usize, hi: usize)
             return;
         }
         let b = window.take(begins, &table);
-        crate::put(b as u64);
+        let _ = print!(rt; " {b}");
     }
 }
