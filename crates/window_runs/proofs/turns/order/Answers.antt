@@ -1,7 +1,6 @@
 -- An empty window is the first one; each turn leaves a window that waits for the next.
-use Rattle.window.proofs.WindowLaws.{not_empty}
 use Prim.Native.Nat.{◌+◌}
-use mathlib.Core.Path.{sym, ◌∙◌, subst}
+use mathlib.Core.Path.{sym, subst}
 use Rattle.window.specs.Window.{State, Waiting}
 use Rattle.window_runs.proofs.Begun.{begun}
 use Rattle.window_runs.proofs.turns.order.Goals as goal
