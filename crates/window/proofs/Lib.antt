@@ -1,4 +1,5 @@
 -- The laws of the window.
+pub mod Frames
 pub mod Members
 pub mod KeyLaws
 pub mod AscLaws

@@ -109,6 +109,7 @@ impl Window {
             → Ranged i begins.now table.now hi
             → Standing i lo hi k (state_of self.old) rest
             → Standing i lo hi k (state_of self.new) rest }
+        ensures heads { self.new.queues.heads ≡ self.old.queues.heads }
     {
         let to = usize::min(self.oldest + 256, hi);
         for b in self.next..to {
@@ -121,10 +122,11 @@ impl Window {
     // The window reaches 256 buckets from its oldest one; an empty window moves to the next bucket with keys.
     pub fn refill(&mut self, begins: &[u32], table: &[i64; 64], hi: usize)
         requires { Waiting begins.now table.now hi (state_of self.old) }
-        ensures { (i : Input) (lo k : ℕ)
+        ensures full { (i : Input) (lo k : ℕ)
             → Ranged i begins.now table.now hi
             → Windowed i lo hi k (state_of self.old)
             → Full i lo hi k (state_of self.new) }
+        ensures heads { self.new.queues.heads ≡ self.old.queues.heads }
     {
         if self.is_empty() {
             self.next = buckets::skip(begins, self.next, hi);
@@ -142,6 +144,7 @@ impl Window {
             → Full i lo hi k (state_of self.old)
             → Turned i lo hi k result (state_of self.new) }
         ensures oldest_le_bucket { ((state_of self.old).oldest ≤ result) × (result < (state_of self.old).oldest + 256) }
+        ensures rows { self.new.queues.rows ≡ self.old.queues.rows }
     {
         let b = pop(&mut self.queues, begins, table, self.large, self.oldest);
         words::clear_bit(&mut self.set, b % 1024);

@@ -27,7 +27,7 @@ refill-requires c =
 pub returns-then-is_empty : goal.returns-then-is_empty
 returns-then-is_empty c = λ i pre h.
     let sw = c.loop-turn.invariant.0 i pre h in
-    let f = c.refill.ensures i _ _ h.ranged sw.windowed in
+    let f = c.refill.ensures.full i _ _ h.ranged sw.windowed in
     let z = is_empty _ _ (sym c.is_empty.ensures.value ∙ c.if-is_empty.true) in
     ends_all sw (end i _ _ _ h.ranged _ _ _ _ _ _ _ f z.0 z.1)
 
@@ -35,7 +35,7 @@ pub take-b-requires : goal.take-b-requires
 take-b-requires c =
     let b = c.requires.begun in
     record {
-      filled = record { i = b.i; lo = _; hi = _; k = _; ranged = b.starting.ranged; full = c.refill.ensures b.i _ _ b.starting.ranged (c.loop-turn.invariant.0 b.i b.pre b.starting).windowed };
+      filled = record { i = b.i; lo = _; hi = _; k = _; ranged = b.starting.ranged; full = c.refill.ensures.full b.i _ _ b.starting.ranged (c.loop-turn.invariant.0 b.i b.pre b.starting).windowed };
       large_nonzero = not_empty _ _ (sym c.is_empty.ensures.value ∙ c.if-is_empty.false);
     }
 
@@ -44,7 +44,7 @@ advance-first_slot-requires c =
     let b = c.requires.begun in
     let h = b.starting in
     let sw = c.loop-turn.invariant.0 b.i b.pre h in
-    let f = c.refill.ensures b.i _ _ h.ranged sw.windowed in
+    let f = c.refill.ensures.full b.i _ _ h.ranged sw.windowed in
     let t = c.take-b.ensures.turned b.i _ _ _ h.ranged f in
     let e = c.requires.ring_value in
     let behind = subst (λ (o : ℕ). c.loop-turn.first_slot ≤ G.first b.i.settings o) (sym c.oldest-oldest.ensures) (behind_oldest f t.some sw.behind) in
@@ -59,7 +59,7 @@ module _ (c : After-advance-first_slot) (i : Input) (pre : List ℕ)
     (h : Starting i c.args.g c.args.bump c.args.hashes.now c.args.begins.now c.args.table.now c.args.weights.now pre c.args.lo c.args.hi c.args.from c.args.z
     (state_of c.args.window.now) c.args.seeds.now c.args.bitmap.now c.args.work.now) where
   full : Full i c.args.lo c.args.hi c.loop-turn._turn (state_of c.refill.new.self)
-  full = c.refill.ensures i _ _ h.ranged (c.loop-turn.invariant.0 i pre h).windowed
+  full = c.refill.ensures.full i _ _ h.ranged (c.loop-turn.invariant.0 i pre h).windowed
 
   drawn : Turned i c.args.lo c.args.hi c.loop-turn._turn c.take-b.result (state_of c.take-b.new.self)
   drawn = c.take-b.ensures.turned i _ _ _ h.ranged full

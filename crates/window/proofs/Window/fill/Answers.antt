@@ -1,5 +1,6 @@
 -- Each bucket from the next one on enters, and has a place in the window.
 use Rattle.window.proofs.AscLaws.{asc_room}
+use Rattle.window.proofs.Frames.{entered_heads}
 use Rattle.window.proofs.WindowLaws.{enterable, enters}
 use Rattle.window.specs.Large.{tell}
 use Rattle.window.specs.Window.{State, state_at, Entering, Window}
@@ -37,4 +38,5 @@ loop-b-preserved c =
           subst (λ (first : ℕ). Window i lo c.args.hi k (state_at s.queues s.set (tell s.large) first (c.loop-b.b + 1)) rest) (sym same)
           (enters i c.args.begins.now c.args.table.now c.args.hi g lo k _ _ _ _ c.loop-b.b rest
           (c.loop-b.invariant.1 i lo k rest g w) (omega arith) (omega arith) c.size_of-size.result c.size_of-size.ensures.0 _ _ _ c.enter.ensures.entered),
+      entered_heads c.enter.ensures.entered ∙ c.loop-b.invariant.2,
     )

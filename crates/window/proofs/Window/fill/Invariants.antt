@@ -16,3 +16,4 @@ abbrev pub invariant-loop-b : goal.invariant-loop-b
 invariant-loop-b l =
     (l.self.oldest ≡ l.initial.self.oldest)
     × Filling l.begins l.table l.hi (state_of l.initial.self) (state_at l.self.queues l.self.set (tell l.self.large) l.self.oldest l.b)
+    × (l.self.queues.heads ≡ l.initial.self.queues.heads)

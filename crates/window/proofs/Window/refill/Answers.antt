@@ -29,9 +29,9 @@ fill-requires c =
     let d = c.requires in
     record { i = d.i; lo = d.lo; k = d.k; rest = d.windowed.rest; ranged = d.ranged; window = (moved (goal.at.fill-requires c).Joined-is_empty d.i d.lo d.k d.ranged d.windowed).0 }
 
-pub returns : goal.returns
-returns c = λ i lo k g h.
-    let w = moved (goal.at.returns c).Joined-is_empty i lo k g h in
+pub returns-clause-full : goal.returns-clause-full
+returns-clause-full c = λ i lo k g h.
+    let w = moved (goal.at.returns-clause-full c).Joined-is_empty i lo k g h in
     let e = c.fill.ensures.oldest_value in
     record {
       rest = h.rest;

@@ -1,4 +1,5 @@
 -- The bucket is taken from the queues and the set; where it was the oldest, the next one of the set becomes that.
+use Rattle.window.proofs.Frames.{popped_rows}
 use Rattle.window.proofs.WindowLaws.{ready, reaches, look, pop_range, pop_other, pop_oldest}
 use Rattle.window.specs.declared.Window as Declared
 use Rattle.window.specs.Large.{tell, Left, Searched}
@@ -74,4 +75,8 @@ returns c =
           ] in
           all c.left-self.ensures;
       oldest_le_bucket = (near.0, omega (arith, near.1, d.full.window.holds.narrow));
+      rows =
+          let popped = popped_rows c.pop-b.ensures in
+          let P : Declared.Window → Type 0 = λ s. s.queues.rows ≡ c.args.self.now.queues.rows in
+          elim c.if-b-self.branch [ then-b-self w ↦ subst P (sym w.self-is) popped | else-b-self w ↦ subst P (sym w.self-is) popped ];
     }

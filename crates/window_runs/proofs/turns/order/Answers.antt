@@ -14,5 +14,5 @@ loop-turn-init g c =
 pub loop-turn-preserved : goal.loop-turn-preserved
 loop-turn-preserved g c =
     let d = c.loop-turn.invariant in
-    let t = c.take-b.ensures.turned d.i d.lo c.args.hi d.k d.ranged (c.refill.ensures d.i d.lo d.k d.ranged d.windowed) in
+    let t = c.take-b.ensures.turned d.i d.lo c.args.hi d.k d.ranged (c.refill.ensures.full d.i d.lo d.k d.ranged d.windowed) in
     record { i = d.i; lo = d.lo; k = d.k + 1; ranged = d.ranged; windowed = t.windowed }
