@@ -12,7 +12,7 @@ use geometry::shape::Geometry;
 use lookup::{lookup, lookup_in};
 use rules::{Refusal, Settings};
 
-// The slot of a hash whose bucket was bumped.
+// The slot of a hash whose bucket was bumped: the C interface has one number for a slot.
 const BUMPED: u64 = u64::MAX;
 
 // Looks a hash up. 0: slot has its slot, or 2^64 - 1 where its bucket was bumped.
@@ -57,7 +57,7 @@ fn fill_in(g: Geometry, seeds: &[u16], hashes: &[u64], slots: &mut [u64])
     }
 }
 
-// The same, with the numbers of the default shape as literals where the geometry has it.
+// The same, with the numbers of the default shape as literals where the geometry has it: they are folded only in a call of their own.
 fn fill_slots(g: Geometry, seeds: &[u16], hashes: &[u64], slots: &mut [u64])
     requires seeds_len { length seeds.now ≡ g.settings.buckets }
     requires slots_len { length slots.old ≡ length hashes.now }

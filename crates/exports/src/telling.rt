@@ -1,4 +1,4 @@
-// What a call tells in numbers.
+// What a call tells in numbers, as the C interface has it.
 ghost use Rattle.std.specs.Prelude.{◌≡◌};
 ghost use Rattle.std.specs.Result.{result_unwrap_or};
 ghost use Rattle.rules.specs.Answers.{refused_by, said_stop};

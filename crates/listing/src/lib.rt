@@ -47,7 +47,7 @@ pub fn finish(scan: Scan, numbers: &[u64], out: &mut [u8]) -> usize
 }
 
 // The listing of an input that is at hand as a whole, at the front of a buffer of at least 32,768 bytes. Answers how many bytes it
-// wrote: 0 where the buffer is shorter.
+// wrote: 0 where the buffer is shorter, since the call cannot fail.
 pub fn listing(bytes: &[u8], out: &mut [u8]) -> usize
     ensures { Listing bytes.now out.old out.new result }
 {
