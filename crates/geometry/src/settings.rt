@@ -12,6 +12,7 @@ use rules::{Refusal, Settings};
 #[tactic(auto, unfolding(rules::specs::Numbers::first_of, rules::specs::Numbers::lines_to6, rules::specs::Numbers::line1, rules::specs::Numbers::line2, rules::specs::Numbers::line3, rules::specs::Numbers::line4, rules::specs::Numbers::line5, rules::specs::Numbers::line6,))]
 pub fn check_to_6(s: Settings) -> Result<(), Refusal>
     ensures number { refused_by result ≡ first_of (lines_to6 s) }
+    ensures low { refused_by result ≤ 6 }
     ensures usable { OnOk result (Usable s) }
 {
     if s.sb < 2 || 16 < s.sb {
@@ -72,6 +73,7 @@ pub fn per_bucket(s: Settings) -> u64
 pub fn check_settings(s: Settings) -> Result<(), Refusal>
     ensures answer { said_checked result ≡ settings_answer s }
     ensures number { refused_by result ≡ first_of (lines_to7 s) }
+    ensures low { refused_by result ≤ 7 }
     ensures good { OnOk result (Good s) }
     ensures usable { OnOk result (Usable s) }
 {

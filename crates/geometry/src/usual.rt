@@ -34,7 +34,7 @@ impl Geometry {
     // The same geometry, in which the numbers of the default shape are literals.
     pub fn literal(self) -> Geometry
         requires { Usual self }
-        ensures { result.settings ≡ self.settings }
+        ensures { result ≡ self }
     {
         Geometry {
             settings: self.settings,
