@@ -44,6 +44,13 @@ impl<'a> Reader<'a> {
     }
 }
 
+// The number at a reader's place and the place after it. The reader is a copy, so the caller's stays where it is.
+pub fn next<'a>(reader: Reader<'a>) -> Result<Decoded, Refusal>
+    ensures { result ≡ taken_at reader.entry.bytes.now reader.entry.at }
+{
+    take_at(reader.bytes, reader.at)
+}
+
 // The number at a place of a lent file and the place after it, through a reader that stands there. Whoever holds no reader calls this.
 #[tactic(auto, unfolding(crate::specs::Taking::taken_as))]
 pub fn number_at(bytes: &[u8], at: usize) -> Result<Decoded, Refusal>
