@@ -24,12 +24,20 @@ module _ (f : ℕ → List ℕ) (xs : List ℕ) (i : ℕ) where
   pub lines_element : i < length xs → concat_map f (drop i xs) ≡ f (get_or xs i 0) ++ concat_map f (drop (i + 1) xs)
   lines_element h = ap (concat_map f) (drop-cons xs i 0 h) ∙ ap (λ (k : ℕ). f (get_or xs i 0) ++ concat_map f (drop k xs)) (sym (add-one i))
 
+  pub lines_end : length xs ≤ i → concat_map f (drop i xs) ≡ []
+  lines_end h = ap (concat_map f) (drop_of_length-le xs h)
+
 -- the lines of the numbers from b up to n
 module _ (f : ℕ → List ℕ) (n b : ℕ) where
   pub lines_number : b < n → concat_map f (count_from b (n - b)) ≡ f b ++ concat_map f (count_from (b + 1) (n - (b + 1)))
   lines_number h =
       let e : n - b ≡ suc (n - (b + 1)) = omega arith in
       ap (λ (k : ℕ). concat_map f (count_from b k)) e ∙ ap (λ (k : ℕ). f b ++ concat_map f (count_from k (n - (b + 1)))) (sym (add-one b))
+
+  pub lines_none : n ≤ b → concat_map f (count_from b (n - b)) ≡ []
+  lines_none h =
+      let e : n - b ≡ 0 = omega arith in
+      ap (λ (k : ℕ). concat_map f (count_from b k)) e
 
 -- a line written: the word, then the fields, then the newline
 pub line_written : (out : List ℕ) (at : ℕ) (word ns a b : List ℕ) (p q : ℕ) → p ≡ at + length word → a ≡ sets out at word → q ≡ p + length (fields ns) → b ≡ sets a p (fields ns)

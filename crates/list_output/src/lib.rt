@@ -4,4 +4,4 @@
 mod lines;
 mod text;
 
-pub use text::{done_text, refused_text};
+pub use text::{done_text, refused_line, refused_text};

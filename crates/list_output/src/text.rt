@@ -10,17 +10,25 @@ use crate::lines::put_line;
 use groups::size_of;
 use rules::{Counts, Stop};
 
-// `refused N`, and the bucket where one is named.
+// `refused N`, whatever the number, and the bucket where one is named.
+pub fn refused_line(number: u64, bucket: Option<u64>, out: &mut [u8]) -> usize
+    requires { 50 ≤ length out.old }
+    ensures value { (result ≡ length (refused_text number (named_by bucket))) × (result ≤ 50) }
+    ensures out_after { out.new ≡ sets out.old 0 (refused_text number (named_by bucket)) }
+{
+    match bucket {
+        Some(named) => put_line(out, 0, b"refused", &[number, named]),
+        None => put_line(out, 0, b"refused", &[number]),
+    }
+}
+
+// The line of a refusal.
 pub fn refused_text(stop: Stop, out: &mut [u8]) -> usize
     requires { 50 ≤ length out.old }
     ensures value { (result ≡ length (refused_text (number_of stop.why) (named_by stop.bucket))) × (result ≤ 50) }
     ensures out_after { out.new ≡ sets out.old 0 (refused_text (number_of stop.why) (named_by stop.bucket)) }
 {
-    let number = stop.why.number();
-    match stop.bucket {
-        Some(bucket) => put_line(out, 0, b"refused", &[number, bucket]),
-        None => put_line(out, 0, b"refused", &[number]),
-    }
+    refused_line(stop.why.number(), stop.bucket, out)
 }
 
 // The line of a bucket.
