@@ -25,29 +25,29 @@ fn settings() -> Settings {
 }
 
 fn figures<R: Print>(c: &mut Comparison<R>, g: Geometry) {
-    c.held("l", g.l, number());
-    c.held("ns", g.slices, number());
-    c.held("scale", g.scale, number());
-    c.held("L", g.layouts, number());
-    c.held("t", g.stride, number());
-    c.held("n", g.ring, number());
-    c.held("R", g.rotations, number());
-    c.held("Q's high word", g.q_hi, number());
-    c.held("Q's low word", g.q_lo, number());
-    c.held("p", g.per_bucket, number());
-    c.held("ring slots", g.slots, number());
-    c.held("table entries", g.entries, number());
+    c.held(b"l", g.l, number());
+    c.held(b"ns", g.slices, number());
+    c.held(b"scale", g.scale, number());
+    c.held(b"L", g.layouts, number());
+    c.held(b"t", g.stride, number());
+    c.held(b"n", g.ring, number());
+    c.held(b"R", g.rotations, number());
+    c.held(b"Q's high word", g.q_hi, number());
+    c.held(b"Q's low word", g.q_lo, number());
+    c.held(b"p", g.per_bucket, number());
+    c.held(b"ring slots", g.slots, number());
+    c.held(b"table entries", g.entries, number());
 }
 
 fn work<R: Print>(c: &mut Comparison<R>, g: Geometry) {
     let z = number().min(4096);
-    c.held("W", g.work_words(z), number());
+    c.held(b"W", g.work_words(z), number());
 }
 
 fn firsts<R: Print>(c: &mut Comparison<R>, g: Geometry) {
     for _ in 0..number() {
         let b = number().min(g.settings.buckets);
-        c.held("first", g.first(b), number());
+        c.held(b"first", g.first(b), number());
     }
 }
 
@@ -55,10 +55,10 @@ fn places<R: Print>(c: &mut Comparison<R>, g: Geometry) {
     for _ in 0..number() {
         let h = number();
         let seed = (number() % 65536) as u16;
-        c.held("bucket", g.bucket_of(h), number());
-        c.held("slice", g.slice_of(h), number());
-        c.held("offset", g.offset_of(h), number());
-        c.held("position", g.position(h, seed), number());
+        c.held(b"bucket", g.bucket_of(h), number());
+        c.held(b"slice", g.slice_of(h), number());
+        c.held(b"offset", g.offset_of(h), number());
+        c.held(b"position", g.position(h, seed), number());
     }
 }
 
@@ -66,11 +66,11 @@ fn places<R: Print>(c: &mut Comparison<R>, g: Geometry) {
 fn case<R: Print>(c: &mut Comparison<R>) {
     let s = settings();
     if let Err(why) = check_settings(s) {
-        c.held("refused", why.number(), 0);
+        c.held(b"refused", why.number(), 0);
         return;
     }
     let g = Geometry::new(s);
-    c.held("refused", 0, 0);
+    c.held(b"refused", 0, 0);
     figures(c, g);
     work(c, g);
     firsts(c, g);

@@ -17,9 +17,9 @@ fn entries<R: Print>(c: &mut Comparison<R>, house: &[u32], table: &[u32]) {
             return;
         }
         c.case = d as u64;
-        c.held("entry", u64::from(*made), rust);
+        c.held(b"entry", u64::from(*made), rust);
         if let Some(entry) = house.get(d) {
-            c.held("house entry", u64::from(*entry), rust);
+            c.held(b"house entry", u64::from(*entry), rust);
         }
     }
 }

@@ -41,7 +41,9 @@ pub struct Comparison<'a, R: Print> {
 }
 
 impl<'a, R: Print> Comparison<'a, R> {
-    pub fn new(rt: &'a R) -> Comparison<'a, R> {
+    pub fn new(rt: &'a R) -> Comparison<'a, R>
+        ensures { (result.case ≡ 0) × (result.tally ≡ record { compared = 0; differ = 0 }) }
+    {
         let tally = Tally {
             compared: 0,
             differ: 0,
@@ -49,10 +51,11 @@ impl<'a, R: Print> Comparison<'a, R> {
         Comparison { rt, case: 0, tally }
     }
 
-    // Compares our number with the Rust's, and says so of the first ten that differ.
+    // Compares our number with the Rust's, and says so of the first ten that differ. The name is what is printed of it, whatever its bytes.
     #[tactic(auto, unfolding(crate::specs::Tallied::tallied))]
-    pub fn held(&mut self, name: &str, here: u64, rust: u64)
-        ensures { self.new.tally ≡ tallied self.old.tally here rust }
+    pub fn held(&mut self, name: &[u8], here: u64, rust: u64)
+        ensures counted { self.new.tally ≡ tallied self.old.tally here rust }
+        ensures kept { self.new.case ≡ self.old.case }
     {
         let t = self.tally;
         let compared = t.compared.wrapping_add(1);
@@ -62,7 +65,9 @@ impl<'a, R: Print> Comparison<'a, R> {
         }
         if t.differ < 10 {
             let case = self.case;
-            let _ = println!(self.rt; "case {case}, {name}: here {here}, the Rust {rust}");
+            let _ = print!(self.rt; "case {case}, ");
+            let _ = self.rt.write_all(name);
+            let _ = println!(self.rt; ": here {here}, the Rust {rust}");
         }
         self.tally = Tally {
             compared,

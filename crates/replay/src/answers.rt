@@ -46,9 +46,9 @@ fn counts_held<R: Print>(c: &mut Comparison<R>, counts: Counts, begins: &[u32], 
         let size = at(begins, b.wrapping_add(1)).saturating_sub(at(begins, b));
         sums = counted(sums, size, *seed);
     }
-    c.held("keys placed", counts.placed, sums.placed);
-    c.held("keys bumped", counts.bumped, sums.bumped);
-    c.held("buckets with seed 0", counts.zero, sums.zero);
+    c.held(b"keys placed", counts.placed, sums.placed);
+    c.held(b"keys bumped", counts.bumped, sums.bumped);
+    c.held(b"buckets with seed 0", counts.zero, sums.zero);
 }
 
 const NO_KEYS: Counts = Counts {
@@ -60,8 +60,8 @@ const NO_KEYS: Counts = Counts {
 // How many numbers there are, and each.
 fn all_held<R: Print, T: Copy + Drop + Into<u64>>(
     c: &mut Comparison<R>,
-    count: &str,
-    each: &str,
+    count: &[u8],
+    each: &[u8],
     xs: &[T],
 ) {
     c.held(count, xs.len() as u64, number());
@@ -75,15 +75,15 @@ fn places_held<R: Print>(c: &mut Comparison<R>, places: &[u32], count: u64) {
     let mut place: u64 = 0;
     for k in 0..count {
         place = place.wrapping_add(number());
-        c.held("hole", at(places, k), place);
+        c.held(b"hole", at(places, k), place);
     }
 }
 
 fn holes_held<R: Print>(c: &mut Comparison<R>, m: u64, bitmap: &[u64], places: &mut [u32]) {
     let count = number();
     match holes(m, bitmap, places) {
-        Ok(n) => c.held("holes", n, count),
-        Err(why) => c.held("holes refused", why.number(), 0),
+        Ok(n) => c.held(b"holes", n, count),
+        Err(why) => c.held(b"holes refused", why.number(), 0),
     }
     places_held(c, places, count);
 }
@@ -98,10 +98,10 @@ pub fn done_held<R: Print>(
     bitmap: &[u64],
     places: &mut [u32],
 ) {
-    c.held("refused", refused_by(outcome), 0);
+    c.held(b"refused", refused_by(outcome), 0);
     counts_held(c, outcome.unwrap_or(NO_KEYS), begins, seeds);
-    all_held(c, "seeds", "seed", seeds);
-    all_held(c, "bitmap words", "bitmap word", bitmap);
+    all_held(c, b"seeds", b"seed", seeds);
+    all_held(c, b"bitmap words", b"bitmap word", bitmap);
     holes_held(c, m, bitmap, places);
 }
 
@@ -113,8 +113,8 @@ pub fn stopped_held<R: Print>(
     seeds: &[u16],
     bitmap: &[u64],
 ) {
-    c.held("refused", refused_by(outcome), refused);
-    c.held("bucket", named_by(outcome), number());
-    c.held("seeds left", nonzero(seeds), 0);
-    c.held("bitmap words left", nonzero(bitmap), 0);
+    c.held(b"refused", refused_by(outcome), refused);
+    c.held(b"bucket", named_by(outcome), number());
+    c.held(b"seeds left", nonzero(seeds), 0);
+    c.held(b"bitmap words left", nonzero(bitmap), 0);
 }

@@ -51,7 +51,7 @@ fn swept<R: Print>(
         work,
     )
     .outcome;
-    c.held("work words wrong", rubbish::worked(work, used), 0);
+    c.held(b"work words wrong", rubbish::worked(work, used), 0);
     if case.refused != 0 {
         stopped_held(c, case.refused, here, seeds, bitmap);
     } else {

@@ -1,5 +1,5 @@
 // The cases on standard input, in house numbers. What has no room is read and not kept.
-ghost use Rattle.std.specs.Prelude.{◌≤◌, length};
+ghost use Rattle.std.specs.Prelude.{◌≡◌, length};
 
 use house_numbers::{Grown, Part, grow};
 
@@ -36,7 +36,7 @@ fn short(x: u64) -> u32 {
 
 // The head of a case, as `list_input` takes it apart: m, log2_slice_len, ll, sb, the bump flag, the weights and B.
 pub fn head() -> [u64; 13]
-    ensures { 13 ≤ length result }
+    ensures { 13 ≡ length result }
 {
     let mut head = [0; 13];
     for x in head.iter_mut() {
