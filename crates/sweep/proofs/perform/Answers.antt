@@ -41,10 +41,10 @@ pub run-ended-requires : goal.run-ended-requires
 run-ended-requires c = blank c.requires (c.fill.ensures.after (λ y e. e)) (c.fill-2.ensures.after (λ y e. e))
 
 pub slice_bounds-fill-end : goal.slice_bounds-fill-end
-slice_bounds-fill-end c = work_room (goal.at.slice_bounds-fill-end c).After-run-ended
+slice_bounds-fill-end c = omega (arith, work_room (goal.at.slice_bounds-fill-end c).After-run-ended)
 
 pub slice_bounds-fill-end-2 : goal.slice_bounds-fill-end-2
-slice_bounds-fill-end-2 c = sym (length-take-le c.args.words _ (work_room (goal.at.slice_bounds-fill-end-2 c).After-run-ended))
+slice_bounds-fill-end-2 c = sym (length-take-le _ _ (omega (arith, work_room (goal.at.slice_bounds-fill-end-2 c).After-run-ended)))
 
 -- the work in the end
 cleared : (c : After-fill-3) → length c.run-ended.new.work ≡ c.args.words
